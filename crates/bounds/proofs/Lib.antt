@@ -1,0 +1,9 @@
+pub mod Compared
+pub mod DaLaws
+pub mod Descents
+pub mod Listed
+pub mod Making
+pub mod Sums
+pub mod Sounds
+pub mod Wcets
+pub mod Works

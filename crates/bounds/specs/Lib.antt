@@ -1,0 +1,4 @@
+pub mod Questions
+pub mod Loads
+pub mod Made
+pub mod Orders

@@ -1,0 +1,68 @@
+-- Orders, the bounds that are found down an order, and what analyse does.
+use mathlib.Core.Path.{_≡_}
+use mathlib.Core.List.{List, _++_, map}
+use mathlib.Core.Bool.{Bool, true, false}
+use Prim.Native.Nat.{ℕ, zero, suc, _≤_, _<_}
+use lib.ListN.{length, getD, take, replicate}
+use Rattle.std.specs.Options.{Cases}
+use Rattle.std.specs.declared.option.Option.{Option}
+use Rattle.std.specs.declared.option.Option.the-variants.{Some, None}
+use Rattle.std.specs.declared.result.Result.{Result}
+use Rattle.std.specs.declared.result.Result.the-variants.{Ok, Err}
+use Rattle.table.specs.declared.row.Row.{Row}
+use Rattle.table.specs.declared.fault.Fault.{Fault}
+use Rattle.table.specs.declared.fault.Fault.the-variants.{Empty, BadOrder, BadLength}
+use Rattle.table.specs.Asking.{Asks}
+use Rattle.table.specs.Faults.{nowhere}
+use Rattle.table.specs.Places.{nth, put}
+
+-- the task of an order that has p tasks above it
+abbrev pub taskAt : List ℕ → ℕ → ℕ
+taskAt order p = getD order p 0
+
+-- An order lists every one of n rows once: it is as long as the rows are many, each task of it is a row, and no two are the same.
+pub record Order (n : ℕ) (order : List ℕ) : Type 0 where
+  pub size : length order ≡ n
+  pub rows : (p : ℕ) → p < n → (1 ≤ taskAt order p) × (taskAt order p ≤ n)
+  pub apart : (p q : ℕ) → p < n → q < n → taskAt order p ≡ taskAt order q → p ≡ q
+
+-- the first p tasks of an order, as a set
+unfoldable pub first : List ℕ → ℕ → List Bool
+first order zero = replicate 32 false
+first order (suc p) = put (first order p) (taskAt order p) true
+
+-- the estimates of which each is its row's C, with 0 past the last row
+abbrev pub wcets : List Row → List ℕ
+wcets rows = take 32 (map (λ (r : Row). r .wcet) rows ++ replicate 32 0)
+
+-- the estimates once the first p tasks of an order have their bounds: these bounds, and C for every other row
+unfoldable pub estimated : List Row → List ℕ → List ℕ → ℕ → List ℕ
+estimated rows order bounds zero = wcets rows
+estimated rows order bounds (suc p) = put (estimated rows order bounds p) (taskAt order p) (nth bounds (taskAt order p) 0)
+
+module _ {T : Type 0} (answer : T → List Row → ℕ → List Bool → List ℕ → Option ℕ) (t : T) (rows : List Row) where
+  -- the answer for the task that has p tasks above it, when these have their bounds
+  abbrev pub answerAt : List ℕ → List ℕ → ℕ → Option ℕ
+  answerAt order bounds p = answer t rows (taskAt order p) (first order p) (estimated rows order bounds p)
+
+  -- none of the first p tasks of an order is late, and these are their bounds, by row number
+  abbrev pub Bounded : List ℕ → List ℕ → ℕ → Type 0
+  Bounded order bounds p = (q : ℕ) → q < p → answerAt order bounds q ≡ Some (nth bounds (taskAt order q) 0)
+
+  -- the first late task of an order is the one with p tasks above it
+  abbrev pub LateAt : List ℕ → List ℕ → ℕ → Type 0
+  LateAt order bounds p = (p < length order) × Bounded order bounds p × (answerAt order bounds p ≡ None)
+
+  -- the bounds of an order, found from the top down: each row's bound in its place, and 0 for the first late task and all below it
+  abbrev pub Found : List ℕ → Option ℕ → List ℕ → Type 0
+  Found order late bounds =
+      Cases late (Bounded order bounds (length order))
+      (λ k. (p : ℕ) × LateAt order bounds p × (taskAt order p ≡ k) × ((q : ℕ) → p ≤ q → q < length order → nth bounds (taskAt order q) 0 ≡ 0))
+
+  -- analyse: the bounds of the order and its first late task, if there is one
+  abbrev pub Analyses : List ℕ → List ℕ → Result (Option ℕ) Fault → List ℕ → Type 0
+  Analyses order before r after =
+      Asks (1 ≤ length rows) ((r ≡ Err Empty) × (after ≡ before))
+      (Asks (Order (length rows) order) ((r ≡ Err (BadOrder nowhere)) × (after ≡ before))
+      (Asks (length before ≡ length rows) ((r ≡ Err BadLength) × (after ≡ before))
+      ((late : Option ℕ) × (r ≡ Ok late) × Found order late after × (length after ≡ length before))))

@@ -1,0 +1,5 @@
+pub mod Asked
+pub mod Equal
+pub mod Made
+pub mod Moves
+pub mod Placed
