@@ -5,8 +5,7 @@ use bounds::da::ask::DaTest;
 use std::error::AnyError;
 use std::fmt;
 use table::fault::Fault;
-use table::row::Row;
-use table::rows::Table;
+use worked::worked_table;
 
 /// What is printed of a task: its bound, that it is late, or that a task above it is.
 #[derive(Clone, Copy)]
@@ -26,15 +25,7 @@ impl fmt::Display for Outcome as OutcomeDisplay {
     }
 }
 
-// The tasks a 2/5/5, b 2/5/5 and c 3/6/6, as wcet, period and deadline.
-fn worked_table() -> Result<Table<Row>, Fault> {
-    let mut table = Table::new();
-    table.add(2, 5, 5)?;
-    table.add(2, 5, 5)?;
-    table.add(3, 6, 6)?;
-    Ok(table)
-}
-
+// The names of the worked table's tasks.
 fn name_of(task: usize) -> &'static str {
     match task {
         1 => "a",

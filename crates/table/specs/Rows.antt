@@ -39,6 +39,7 @@ MadeRow wcet period deadline r =
     Asks (IsRow wcet period deadline) (r ≡ Err (BadRow nowhere))
     ((row : Row) × (r ≡ Ok row) × Of row wcet period deadline)
 
+-- a table as the logic holds it, for the contract of the loan of a row
 abbrev pub table-type : RattleType → RattleType
 table-type x = Table.the-row x
 

@@ -2,6 +2,7 @@
 ghost use Prim.Native.Nat.{_≤_};
 
 pub mod made;
+pub mod same;
 
 #[derive(Clone, Copy)]
 pub struct Row {

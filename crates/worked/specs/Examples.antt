@@ -21,8 +21,12 @@ c = record { wcet = 3; period = 6; deadline = 6; ok = (lit≤ tt, lit≤ tt, lit
 abbrev pub tasks : List Row
 tasks = a ∷ (a ∷ (c ∷ []))
 
-abbrev pub none : List Bool
-none = replicate 32 false
+-- the set of the tasks above c: only a, and both a and b
+abbrev pub onlyA : List Bool
+onlyA = put (replicate 32 false) 1 true
+
+abbrev pub aAndB : List Bool
+aAndB = put onlyA 2 true
 
 -- w of a in 4, 5, 6 and 7
 abbrev pub Work : Type 0
@@ -30,7 +34,7 @@ Work = (work a 4 ≡ 2) × (work a 5 ≡ 2) × (work a 6 ≡ 3) × (work a 7 ≡
 
 -- da of c: late with a and b above, 5 with only a
 abbrev pub DeadlineAnalysis : Type 0
-DeadlineAnalysis = (da 2 tasks 3 (put (put none 1 true) 2 true) (wcets tasks) ≡ None) × (da 2 tasks 3 (put none 1 true) (wcets tasks) ≡ Some 5)
+DeadlineAnalysis = (da 2 tasks 3 aAndB (wcets tasks) ≡ None) × (da 2 tasks 3 onlyA (wcets tasks) ≡ Some 5)
 
 -- all worked examples
 abbrev pub WorkedExamples : Type 0

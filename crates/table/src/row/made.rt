@@ -1,6 +1,5 @@
 // A row is made here and nowhere else.
 ghost use mathlib.Core.Path.{_≡_};
-ghost use Rattle.std.specs.Orderings.{Decides};
 ghost use Rattle.table.specs.Rows.{MadeRow};
 use super::Row;
 use crate::fault::Fault;
@@ -48,14 +47,5 @@ impl Row {
         ensures { λ r. ⌜ r ≡ now (self .entry) .deadline ⌝ }
     {
         self.deadline
-    }
-}
-
-/// Two rows are equal where their three numbers are.
-pub impl PartialEq<Row> for Row as RowPartialEq {
-    ghost equals = { λ a b r. Decides r (a ≡ b) };
-
-    fn eq(&self, other: &Row) -> bool {
-        self.wcet == other.wcet && self.period == other.period && self.deadline == other.deadline
     }
 }

@@ -9,7 +9,7 @@ ghost use Rattle.table.specs.Rows.{view, Names, Adds, Alters, Removes, Reads};
 use super::Table;
 use crate::fault::Fault;
 use crate::row::Row;
-use crate::row::made::RowPartialEq;
+use crate::row::same::RowPartialEq;
 
 impl Table<Row> {
     /// A table of no rows; the places past its end hold a filler.

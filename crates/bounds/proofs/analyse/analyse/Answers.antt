@@ -1,4 +1,5 @@
-use mathlib.Core.Path.{refl, sym, _∙_, subst}
+use mathlib.Core.Path.{refl, sym, subst}
+use native.Mathlib.Omega.{arith}
 use borrow.Author.Needs.{needs}
 use Rattle.std.proofs.shelf.Tests.{both-ways}
 use Rattle.table.proofs.Asked.{met, missed}
@@ -17,7 +18,7 @@ returns-then-bounds-rows g c =
 
 pub find-bounds-requires : need.find-bounds-requires
 find-bounds-requires g c κs =
-    (subst (λ n. Order n (c .args .order .now)) (c .len-rows .ensures .rows) (c .is-order .ensures .0 (c .if-not-is-order .left)), c .if-bounds-rows .left ∙ c .len-rows .ensures .rows)
+    (subst (λ n. Order n (c .args .order .now)) (c .len-rows .ensures .rows) (c .is-order .ensures .0 (c .if-not-is-order .left)), omega (arith, c .if-bounds-rows .left, c .len-rows .ensures .rows))
 
 pub returns : need.returns
 returns g c =

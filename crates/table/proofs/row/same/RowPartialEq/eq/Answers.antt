@@ -3,7 +3,7 @@ use mathlib.Core.Path.{ap}
 use Rattle.std.proofs.shelf.Tests.{eqb-true, eq-eqb}
 use Rattle.table.specs.declared.row.Row.{Row}
 use Rattle.table.proofs.Equal.{same-row}
-use Rattle.table.proofs.row.made.RowPartialEq.eq.Needs as need
+use Rattle.table.proofs.row.same.RowPartialEq.eq.Needs as need
 
 pub returns-then-self-other-2 : need.returns-then-self-other-2
 returns-then-self-other-2 c =
