@@ -1,5 +1,5 @@
 -- How answers compare: late is greater than every number.
-use mathlib.Core.Path.{_≡_, subst, sym, _∙_}
+use mathlib.Core.Path.{_≡_, refl, ap, subst, sym, _∙_}
 use mathlib.Core.Bool.{true, false, cond}
 use mathlib.Core.Logic.{_⊎_, inl, inr}
 use Prim.Native.Nat.{ℕ, _≤_}
@@ -16,6 +16,12 @@ no-more-self (Some x) = omega arith
 
 pub no-more-same : (a b : Option ℕ) → a ≡ b → NoMore a b
 no-more-same a b e = subst (λ c. NoMore a c) e (no-more-self a)
+
+pub no-more-both : (a b : Option ℕ) → NoMore a b → NoMore b a → a ≡ b
+no-more-both None None h k = refl
+no-more-both None (Some y) h k = absurd h
+no-more-both (Some x) None h k = absurd k
+no-more-both (Some x) (Some y) h k = ap Some (omega arith)
 
 pub no-more-late : (a : Option ℕ) → NoMore a None
 no-more-late None = tt

@@ -13,7 +13,7 @@ use Rattle.table.specs.declared.row.Row.{Row}
 use Rattle.table.specs.Rows.{row}
 use Rattle.bounds.specs.Questions.{In}
 use Rattle.bounds.specs.Loads.{work, carried, capOf, sumOver, deadlinePart, deadlineLoad}
-use Rattle.bounds.proofs.Sums.{sum-mono, sum-le}
+use Rattle.bounds.proofs.Sums.{over-mono, over-le}
 
 pub whole-le : (q t c : ℕ) → c ≤ t → q / t * c ≤ q
 whole-le q t c h = omega (arith, mul-le-mul-left {m = c} {n = t} (q / t) h, div-mul-le-self q t)
@@ -39,16 +39,20 @@ work-mono j a b h =
           omega (arith, products, wholes, div-add-mod' a (j .period), div-add-mod' b (j .period))
     ]
 
+-- no task runs for longer than the window
+pub work-le : (j : Row) (q : ℕ) → work j q ≤ q
+work-le j q = omega (arith, mul-le-mul-left {m = j .wcet} {n = j .period} (q / (j .period)) (omega (arith, j .ok)), div-add-mod' q (j .period))
+
 -- a load is at most its cap, which is at most the window
 pub carried-le : (i : Row) (l : ℕ) (j : Row) (r : ℕ) → i .wcet ≤ l → carried i l j r ≤ l
 carried-le i l j r h = omega (arith, i .ok)
 
 module _ (rows : List Row) (i : ℕ) where
   pub deadline-load-le : (s : List Bool) (n : ℕ) → sumOver s (deadlinePart rows i) n ≤ n * 1000000
-  deadline-load-le s n = sum-le s _ 1000000 n (λ k. omega (arith, carried-le (row rows i) (row rows i .deadline) (row rows k) (row rows k .deadline) (omega (arith, row rows i .ok)), row rows i .ok))
+  deadline-load-le s n = over-le s _ 1000000 n (λ k. omega (arith, carried-le (row rows i) (row rows i .deadline) (row rows k) (row rows k .deadline) (omega (arith, row rows i .ok)), row rows i .ok))
 
   pub deadline-load-mono : (s u : List Bool) → ((k : ℕ) → In s k → In u k) → deadlineLoad rows i s ≤ deadlineLoad rows i u
-  deadline-load-mono s u sub = sum-mono s u _ _ (length rows) sub (λ k low high m. omega arith)
+  deadline-load-mono s u sub = over-mono s u _ _ (length rows) sub (λ k low high m. omega arith)
 
 -- the load of two rows that were read, in the window of the first one's deadline
 pub deadline-part : (rows : List Row) (i k : ℕ) (own one : Row) (d e x : ℕ) → row rows i ≡ own → row rows k ≡ one → d ≡ own .deadline → e ≡ one .deadline → x ≡ carried own d one e → x ≡ deadlinePart rows i k

@@ -22,10 +22,22 @@ capOf i l = l - i .wcet + 1
 abbrev pub carried : Row → ℕ → Row → ℕ → ℕ
 carried i l j r = min (work j (l + r - j .wcet)) (capOf i l)
 
--- the sum of f over the tasks of a set, among the rows 1 to n
-unfoldable pub sumOver : List Bool → (ℕ → ℕ) → ℕ → ℕ
-sumOver set f zero = 0
-sumOver set f (suc n) = sumOver set f n + cond (nth set (suc n) false) (f (suc n)) 0
+-- the plain load of a task j in a window l of a task i: the lesser of w(l) and the cap
+abbrev pub plain : Row → ℕ → Row → ℕ
+plain i l j = min (work j l) (capOf i l)
+
+-- f 1 + f 2 + .. + f n
+unfoldable pub sumTo : (ℕ → ℕ) → ℕ → ℕ
+sumTo f zero = 0
+sumTo f (suc n) = sumTo f n + f (suc n)
+
+-- the total of f over the tasks that are chosen, among the rows 1 to n
+abbrev pub totalOf : (ℕ → Bool) → (ℕ → ℕ) → ℕ → ℕ
+totalOf chosen f n = sumTo (λ k. cond (chosen k) (f k) 0) n
+
+-- the same over the tasks of a set
+abbrev pub sumOver : List Bool → (ℕ → ℕ) → ℕ → ℕ
+sumOver set f n = totalOf (λ k. nth set k false) f n
 
 -- the load that task k carries into the window D of task i, with its deadline as estimate
 abbrev pub deadlinePart : List Row → ℕ → ℕ → ℕ

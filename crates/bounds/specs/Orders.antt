@@ -1,4 +1,4 @@
--- Orders, the bounds that are found down an order, and what analyse does.
+-- Orders, the bounds that are found down an order, and what analyse and check do.
 use mathlib.Core.Path.{_≡_}
 use mathlib.Core.List.{List, _++_, map}
 use mathlib.Core.Bool.{Bool, true, false}
@@ -15,6 +15,9 @@ use Rattle.table.specs.declared.fault.Fault.the-variants.{Empty, BadOrder, BadL
 use Rattle.table.specs.Asking.{Asks}
 use Rattle.table.specs.Faults.{nowhere}
 use Rattle.table.specs.Places.{nth, put}
+use Rattle.table.specs.Rows.{row, Names}
+use Rattle.bounds.specs.declared.miss.Miss.{Miss}
+use Rattle.bounds.specs.Questions.{NoMore}
 
 -- the task of an order that has p tasks above it
 abbrev pub taskAt : List ℕ → ℕ → ℕ
@@ -31,14 +34,23 @@ unfoldable pub first : List ℕ → ℕ → List Bool
 first order zero = replicate 32 false
 first order (suc p) = put (first order p) (taskAt order p) true
 
--- the estimates of which each is its row's C, with 0 past the last row
+-- a list by row with 0 past the last row, 32 places in all
+abbrev pub padded : List ℕ → List ℕ
+padded xs = take 32 (xs ++ replicate 32 0)
+
+-- the estimates of which each is its row's C
 abbrev pub wcets : List Row → List ℕ
-wcets rows = take 32 (map (λ (r : Row). r .wcet) rows ++ replicate 32 0)
+wcets rows = padded (map (λ (r : Row). r .wcet) rows)
 
 -- the estimates once the first p tasks of an order have their bounds: these bounds, and C for every other row
 unfoldable pub estimated : List Row → List ℕ → List ℕ → ℕ → List ℕ
 estimated rows order bounds zero = wcets rows
 estimated rows order bounds (suc p) = put (estimated rows order bounds p) (taskAt order p) (nth bounds (taskAt order p) 0)
+
+-- there is exactly one estimate for each row, from its C to its D
+pub record Estimates (rows : List Row) (estimates : List ℕ) : Type 0 where
+  pub size : length estimates ≡ length rows
+  pub within : (k : ℕ) → Names rows k → (row rows k .wcet ≤ nth estimates k 0) × (nth estimates k 0 ≤ row rows k .deadline)
 
 module _ {T : Type 0} (answer : T → List Row → ℕ → List Bool → List ℕ → Option ℕ) (t : T) (rows : List Row) where
   -- the answer for the task that has p tasks above it, when these have their bounds
@@ -66,3 +78,24 @@ module _ {T : Type 0} (answer : T → List Row → ℕ → List Bool → List �
       (Asks (Order (length rows) order) ((r ≡ Err (BadOrder nowhere)) × (after ≡ before))
       (Asks (length before ≡ length rows) ((r ≡ Err BadLength) × (after ≡ before))
       ((late : Option ℕ) × (r ≡ Ok late) × Found order late after × (length after ≡ length before))))
+
+  -- the answer for the task that has p tasks above it, with these estimates
+  abbrev pub answerWith : List ℕ → List ℕ → ℕ → Option ℕ
+  answerWith order estimates p = answer t rows (taskAt order p) (first order p) (padded estimates)
+
+  -- that answer is at most the task's own estimate
+  abbrev pub MeetsAt : List ℕ → List ℕ → ℕ → Type 0
+  MeetsAt order estimates p = NoMore (answerWith order estimates p) (Some (nth estimates (taskAt order p) 0))
+
+  -- the first task from the top whose answer is late or above its estimate, with that answer; or none
+  abbrev pub FirstMiss : List ℕ → List ℕ → Option Miss → Type 0
+  FirstMiss order estimates miss =
+      Cases miss ((p : ℕ) → p < length order → MeetsAt order estimates p)
+      (λ x. (p : ℕ) × (p < length order) × (taskAt order p ≡ x .task) × (answerWith order estimates p ≡ x .bound) × (MeetsAt order estimates p → ⊥) × ((q : ℕ) → q < p → MeetsAt order estimates q))
+
+  -- check: the first task of the order that misses its estimate, if there is one
+  abbrev pub Checks : List ℕ → List ℕ → Result (Option Miss) Fault → Type 0
+  Checks order estimates r =
+      Asks (1 ≤ length rows) (r ≡ Err Empty)
+      (Asks (Order (length rows) order × Estimates rows estimates) (r ≡ Err (BadOrder nowhere))
+      ((miss : Option Miss) × (r ≡ Ok miss) × FirstMiss order estimates miss))

@@ -1,9 +1,9 @@
 // The bounds of an order, from the top down.
 ghost use mathlib.Core.Path.{_≡_};
-ghost use Prim.Native.Nat.{_≤_};
 ghost use lib.ListN.{length};
 ghost use Rattle.table.specs.Rows.{view};
-ghost use Rattle.bounds.specs.Orders.{Order, wcets, Found, Analyses};
+ghost use Rattle.bounds.specs.Orders.{Order, Found, Analyses};
+use crate::estimates::wcets_of;
 use crate::order::is_order;
 use crate::question::Question;
 use crate::test::Test;
@@ -11,18 +11,6 @@ use table::fault::Fault;
 use table::fault::Place;
 use table::row::Row;
 use table::rows::Table;
-
-// Each row's wcet in its place, and 0 past the last row.
-fn wcets_of(rows: &[Row]) -> [u32; 32]
-    requires { ⌜ length (now rows) ≤ 32 ⌝ }
-    ensures { λ r. ⌜ r ≡ wcets (now (rows .entry)) ⌝ }
-{
-    let mut wcets = [0; 32];
-    for place in 0..rows.len() {
-        wcets[place] = rows[place].wcet();
-    }
-    wcets
-}
 
 // Goes down the order until a task is late, and writes each bound in its row's place.
 fn find_bounds<T: Test>(

@@ -6,7 +6,7 @@ ghost use Rattle.bounds.specs.Questions.{capped};
 use table::row::Row;
 
 // The most that a task runs in `q`, if it runs as early as it may.
-fn work_in(row: Row, q: u32) -> u32
+pub(crate) fn work_in(row: Row, q: u32) -> u32
     requires { ⌜ q ≤ 2000000 ⌝ }
     ensures { λ r. ⌜ r ≡ work row q ⌝ }
 {

@@ -1,10 +1,21 @@
-// Tests of the question, the deadline analysis and analyse.
+// Tests of the question, the tests, analyse and check.
 #[cfg(test)]
 mod tests {
     use bounds::analyse::analyse;
+    use bounds::check::check as check_answer;
     use bounds::da::Da;
     use bounds::da::ask::DaTest;
+    use bounds::lc::Lc;
+    use bounds::lc::ask::LcTest;
+    use bounds::miss::Miss;
+    use bounds::miss::MissDebug;
+    use bounds::miss::MissPartialEq;
+    use bounds::named::NamedTest;
+    use bounds::overhead::Overhead;
+    use bounds::overhead::ask::OverheadTest;
     use bounds::question::Question;
+    use bounds::rta::Rta;
+    use bounds::rta::ask::RtaTest;
     use bounds::test::Test;
     use std::test::*;
     use table::fault::Fault;
@@ -81,6 +92,134 @@ mod tests {
         check_eq(da_on(3, &[1], estimates_of(1, 2, 3))?, None)?;
         check_eq(da_on(3, &[1], estimates_of(2, 6, 3))?, None)?;
         check_eq(da_on(3, &[1], estimates_of(2, 2, 7))?, None)
+    }
+
+    // What a test answers of c in the worked table with a and b above.
+    fn on_c<T: Test>(test: &T, a: u32, b: u32) -> Result<Option<u32>, Fail> {
+        let table = worked_table()?;
+        let above = set_of(&[1, 2]);
+        let estimates = estimates_of(a, b, 3);
+        let question = Question {
+            table: &table,
+            task: 3,
+            above: &above,
+            estimates: &estimates,
+        };
+        Ok(test.ask(&question))
+    }
+
+    #[test]
+    fn answers_by_responses() -> Result<(), Fail> {
+        let rta = Rta::new(2)?;
+        check_eq(on_c(&rta, 2, 2)?, Some(5))?;
+        check_eq(on_c(&rta, 2, 3)?, Some(5))?;
+        check_eq(on_c(&rta, 3, 3)?, None)?;
+        check_eq(on_c(&rta, 1, 2)?, None)?;
+        let lc = Lc::new(2)?;
+        check_eq(on_c(&lc, 5, 5)?, Some(5))?;
+        check_eq(on_c(&lc, 5, 6)?, None)
+    }
+
+    #[test]
+    fn adds_overheads() -> Result<(), Fail> {
+        check_eq(on_c(&Overhead::new(0, Rta::new(2)?)?, 2, 2)?, Some(5))?;
+        check_eq(on_c(&Overhead::new(1, Rta::new(2)?)?, 2, 2)?, Some(6))?;
+        check_eq(on_c(&Overhead::new(2, Rta::new(2)?)?, 2, 2)?, None)?;
+        check_eq(on_c(&Overhead::new(1_000_000, Rta::new(2)?)?, 2, 2)?, None)?;
+        check_eq(on_c(&Overhead::new(1, Rta::new(2)?)?, 3, 3)?, None)?;
+        check_eq(
+            on_c(&Overhead::new(1, Overhead::new(1, Rta::new(2)?)?)?, 2, 2)?,
+            None,
+        )?;
+        check_eq(
+            on_c(&Overhead::new(1, Overhead::new(0, Rta::new(2)?)?)?, 2, 2)?,
+            Some(6),
+        )
+    }
+
+    // The call was refused by the board layer with 12.
+    fn no_test(fault: Fault) -> Result<(), Fail> {
+        check_eq(fault.number(), 12)?;
+        check_eq(fault.layer(), Layer::Board)?;
+        check_eq(fault.place(), Place::NOWHERE)
+    }
+
+    #[test]
+    fn refuses_other_tests() -> Result<(), Fail> {
+        for name in ["", "d", "dab", "DA", "rta ", "edf", "l"] {
+            let Err(fault) = NamedTest::new(name.as_bytes(), 2) else {
+                return Err(Fail::new("the name was accepted"));
+            };
+            no_test(fault)?;
+        }
+        for name in ["da", "rta", "lc"] {
+            check(NamedTest::new(name.as_bytes(), 1).is_ok())?;
+            check(NamedTest::new(name.as_bytes(), 16).is_ok())?;
+            let Err(fault) = NamedTest::new(name.as_bytes(), 0) else {
+                return Err(Fail::new("no processor was accepted"));
+            };
+            no_test(fault)?;
+        }
+        Ok(())
+    }
+
+    #[test]
+    fn refuses_a_long_overhead() -> Result<(), Fail> {
+        let Err(fault) = Overhead::new(1_000_001, Rta::new(2)?) else {
+            return Err(Fail::new("the overhead was accepted"));
+        };
+        no_test(fault)
+    }
+
+    #[test]
+    fn checks_answers() -> Result<(), Fail> {
+        let table = worked_table()?;
+        let rta = Rta::new(2)?;
+        check_eq(check_answer(&rta, &table, &[1, 2, 3], &[2, 3, 5])?, None)?;
+        check_eq(
+            check_answer(&rta, &table, &[1, 2, 3], &[2, 3, 4])?,
+            Some(Miss {
+                task: 3,
+                bound: Some(5),
+            }),
+        )?;
+        check_eq(
+            check_answer(&rta, &table, &[2, 1, 3], &[3, 3, 6])?,
+            Some(Miss {
+                task: 3,
+                bound: None,
+            }),
+        )?;
+        check_eq(
+            check_answer(&Da::new(2)?, &table, &[1, 2, 3], &[2, 3, 5])?,
+            Some(Miss {
+                task: 2,
+                bound: Some(4),
+            }),
+        )
+    }
+
+    // The check was refused by the study layer with this number.
+    fn no_check(r: Result<Option<Miss>, Fault>, number: u32) -> Result<(), Fail> {
+        let Err(fault) = r else {
+            return Err(Fail::new("the call was accepted"));
+        };
+        check_eq(fault.number(), number)?;
+        check_eq(fault.layer(), Layer::Study)?;
+        check_eq(fault.place(), Place::NOWHERE)
+    }
+
+    #[test]
+    fn refuses_what_is_no_answer() -> Result<(), Fail> {
+        let table = worked_table()?;
+        let rta = Rta::new(2)?;
+        no_check(check_answer(&rta, &Table::new(), &[1], &[1]), 13)?;
+        no_check(check_answer(&rta, &table, &[1, 2], &[2, 3, 5]), 17)?;
+        no_check(check_answer(&rta, &table, &[1, 2, 2], &[2, 3, 5]), 17)?;
+        no_check(check_answer(&rta, &table, &[1, 2, 3], &[2, 3]), 17)?;
+        no_check(check_answer(&rta, &table, &[1, 2, 3], &[2, 3, 5, 5]), 17)?;
+        no_check(check_answer(&rta, &table, &[1, 2, 3], &[1, 3, 5]), 17)?;
+        no_check(check_answer(&rta, &table, &[1, 2, 3], &[2, 3, 7]), 17)
     }
 
     #[test]

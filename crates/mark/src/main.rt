@@ -1,11 +1,18 @@
-// Analyses an order of the worked table on 2 processors, and prints what each task's bound is.
+// Analyses an order of the worked table on 2 processors under each test, checks an answer, and prints both.
 use bounds::analyse::analyse;
-use bounds::da::Da;
-use bounds::da::ask::DaTest;
+use bounds::check::check;
+use bounds::miss::Miss;
+use bounds::named::NamedTest;
+use bounds::named::ask::NamedTestTest;
 use std::error::AnyError;
 use std::fmt;
 use table::fault::Fault;
 use worked::worked_table;
+
+/// The order a, b, c, and the estimates of its answer.
+const ORDER: [usize; 3] = [1, 2, 3];
+
+const ESTIMATES: [u32; 3] = [2, 3, 5];
 
 /// What is printed of a task: its bound, that it is late, or that a task above it is.
 #[derive(Clone, Copy)]
@@ -22,15 +29,6 @@ impl fmt::Display for Outcome as OutcomeDisplay {
             Outcome::Late => write!(f, "late"),
             Outcome::Below => write!(f, "-"),
         }
-    }
-}
-
-// The names of the worked table's tasks.
-fn name_of(task: usize) -> &'static str {
-    match task {
-        1 => "a",
-        2 => "b",
-        _ => "c",
     }
 }
 
@@ -53,24 +51,64 @@ impl Analysis {
     }
 }
 
-fn analysed(order: &[usize]) -> Result<Analysis, Fault> {
+// The names of the worked table's tasks.
+fn name_of(task: usize) -> &'static str {
+    match task {
+        1 => "a",
+        2 => "b",
+        _ => "c",
+    }
+}
+
+fn analysed(name: &str) -> Result<Analysis, Fault> {
     let table = worked_table()?;
-    let test = Da::new(2)?;
+    let test = NamedTest::new(name.as_bytes(), 2)?;
     let mut bounds = [0; 3];
-    let late = analyse(&test, &table, order, &mut bounds)?;
+    let late = analyse(&test, &table, &ORDER, &mut bounds)?;
     Ok(Analysis { late, bounds })
 }
 
-fn run(rt: &impl Print) -> Result<(), AnyError> {
-    let order = [1, 2, 3];
-    let Ok(analysis) = analysed(&order) else {
+fn checked(name: &str) -> Result<Option<Miss>, Fault> {
+    let table = worked_table()?;
+    let test = NamedTest::new(name.as_bytes(), 2)?;
+    check(&test, &table, &ORDER, &ESTIMATES)
+}
+
+fn print_analysis(rt: &impl Print, name: &str) -> Result<(), AnyError> {
+    let Ok(analysis) = analysed(name) else {
         return Err("the worked table was refused".into());
     };
-    println!(rt, "test task bound")?;
-    for task in order {
-        let name = name_of(task);
+    for task in ORDER {
+        let task_name = name_of(task);
         let outcome = analysis.outcome(task);
-        println!(rt, "da {name} {outcome}")?;
+        println!(rt, "{name} {task_name} {outcome}")?;
+    }
+    Ok(())
+}
+
+fn print_check(rt: &impl Print, name: &str) -> Result<(), AnyError> {
+    match checked(name) {
+        Ok(None) => println!(rt, "{name} passes - 0")?,
+        Ok(Some(miss)) => {
+            let task_name = name_of(miss.task);
+            match miss.bound {
+                Some(bound) => println!(rt, "{name} fails {task_name} {bound}")?,
+                None => println!(rt, "{name} fails {task_name} late")?,
+            }
+        }
+        Err(_) => return Err("the worked answer was refused".into()),
+    }
+    Ok(())
+}
+
+fn run(rt: &impl Print) -> Result<(), AnyError> {
+    println!(rt, "test task bound")?;
+    for name in ["da", "rta", "lc"] {
+        print_analysis(rt, name)?;
+    }
+    println!(rt, "test answer task bound")?;
+    for name in ["da", "rta", "lc"] {
+        print_check(rt, name)?;
     }
     Ok(())
 }

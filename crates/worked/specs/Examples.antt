@@ -5,11 +5,14 @@ use mathlib.Core.Bool.{Bool, true, false}
 use Prim.Native.Nat.{ℕ}
 use lib.Dec.{lit≤}
 use lib.ListN.{replicate}
+use Rattle.std.specs.declared.option.Option.{Option}
 use Rattle.std.specs.declared.option.Option.the-variants.{Some, None}
 use Rattle.table.specs.declared.row.Row.{Row}
 use Rattle.table.specs.Places.{put}
 use Rattle.bounds.specs.Loads.{work, da}
-use Rattle.bounds.specs.Orders.{wcets}
+use Rattle.bounds.specs.Orders.{wcets, padded}
+use Rattle.bounds.specs.Overheads.{over}
+use Rattle.bounds.specs.Responses.{rta, lc}
 
 -- the tasks: a and b are 2/5/5 (wcet, period, deadline), c is 3/6/6
 abbrev pub a : Row
@@ -36,6 +39,28 @@ Work = (work a 4 ≡ 2) × (work a 5 ≡ 2) × (work a 6 ≡ 3) × (work a 7 ≡
 abbrev pub DeadlineAnalysis : Type 0
 DeadlineAnalysis = (da 2 tasks 3 aAndB (wcets tasks) ≡ None) × (da 2 tasks 3 onlyA (wcets tasks) ≡ Some 5)
 
+-- estimates of a and b, with c's own C
+abbrev pub estimates : ℕ → ℕ → List ℕ
+estimates x y = padded (x ∷ (y ∷ (3 ∷ [])))
+
+-- rta of c with a and b above: 5 with the estimates 2 and 2, and with 2 and 3; late with 3 and 3
+abbrev pub ResponseAnalysis : Type 0
+ResponseAnalysis = (rta 2 tasks 3 aAndB (estimates 2 2) ≡ Some 5) × (rta 2 tasks 3 aAndB (estimates 2 3) ≡ Some 5) × (rta 2 tasks 3 aAndB (estimates 3 3) ≡ None)
+
+-- lc of c with a and b above: 5 with the estimates 5 and 5
+abbrev pub LimitedAnalysis : Type 0
+LimitedAnalysis = lc 2 tasks 3 aAndB (estimates 5 5) ≡ Some 5
+
+-- rta of c with a and b above and the estimates 2 and 2, under overheads
+abbrev pub under : ℕ → Option ℕ → Option ℕ
+under v below = over v tasks 3 below
+
+-- an overhead of 1 gives 6, of 2 late, of 1 over 1 late, of 1 over 0 gives 6
+abbrev pub Overheads : Type 0
+Overheads =
+    (under 1 (rta 2 tasks 3 aAndB (estimates 2 2)) ≡ Some 6) × (under 2 (rta 2 tasks 3 aAndB (estimates 2 2)) ≡ None)
+    × (under 1 (under 1 (rta 2 tasks 3 aAndB (estimates 2 2))) ≡ None) × (under 1 (under 0 (rta 2 tasks 3 aAndB (estimates 2 2))) ≡ Some 6)
+
 -- all worked examples
 abbrev pub WorkedExamples : Type 0
-WorkedExamples = Work × DeadlineAnalysis
+WorkedExamples = Work × DeadlineAnalysis × ResponseAnalysis × LimitedAnalysis × Overheads

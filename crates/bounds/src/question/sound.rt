@@ -4,6 +4,7 @@ ghost use Prim.Native.Nat.{_+_, _<_};
 ghost use Rattle.std.specs.Orderings.{Decides};
 ghost use Rattle.bounds.specs.Questions.{SoundQuestion, soundb, fitsb};
 use super::Question;
+use crate::estimates::lies_within;
 use table::row::Row;
 
 // Whether the row at a place has a sound estimate, and what is no row is not above.
@@ -14,8 +15,7 @@ fn fits_at(rows: &[Row], above: &[bool; 32], estimates: &[u32; 32], place: usize
     if place >= rows.len() {
         return !above[place];
     }
-    let row = rows[place];
-    row.wcet() <= estimates[place] && estimates[place] <= row.deadline()
+    lies_within(rows[place], estimates[place])
 }
 
 // Whether a question on these rows is sound.

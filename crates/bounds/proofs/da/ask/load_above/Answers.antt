@@ -6,13 +6,13 @@ use Rattle.table.specs.declared.row.Row.{Row}
 use Rattle.table.specs.Rows.{row}
 use Rattle.bounds.specs.Loads.{deadlinePart, carried}
 use Rattle.bounds.proofs.Sounds.{row-read, row-named}
-use Rattle.bounds.proofs.Sums.{sum-none, sum-more}
+use Rattle.bounds.proofs.Sums.{sum-none, over-more}
 use Rattle.bounds.proofs.Works.{deadline-load-le, deadline-part}
 use Rattle.bounds.proofs.da.ask.load_above.Needs as need
 use Rattle.bounds.proofs.da.ask.load_above.Needs.{then-above-place, else-above-place}
 
 pub loop-place-holds : need.loop-place-holds
-loop-place-holds c = sym (sum-none (c .args .above .now) (deadlinePart (c .args .rows .now) (c .args .task)))
+loop-place-holds c = sym (sum-none _)
 
 pub add-sum : need.add-sum
 add-sum c = omega (arith, c .loop-place .inv, deadline-load-le (c .args .rows .now) (c .args .task) (c .args .above .now) (c .loop-place .place))
@@ -23,7 +23,7 @@ loop-place-again c =
     let place = c .loop-place .place in
     let i = c .args .task in
     let inv = c .loop-place .inv in
-    let more = sum-more (c .args .above .now) (deadlinePart rows i) place in
+    let more = over-more (c .args .above .now) (deadlinePart rows i) place in
     elim (c .if-above-place .came) [
       | then-above-place w ↦
           let own = row-named rows i (c .index-rows-task .result) (c .pre .0) (c .index-rows-task .is) in
