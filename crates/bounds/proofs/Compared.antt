@@ -23,6 +23,16 @@ no-more-both None (Some y) h k = absurd h
 no-more-both (Some x) None h k = absurd k
 no-more-both (Some x) (Some y) h k = ap Some (omega arith)
 
+pub no-more-join : (a b c : Option ℕ) → NoMore a b → NoMore b c → NoMore a c
+no-more-join None None None h k = tt
+no-more-join None None (Some z) h k = k
+no-more-join None (Some y) None h k = tt
+no-more-join None (Some y) (Some z) h k = h
+no-more-join (Some x) None None h k = tt
+no-more-join (Some x) None (Some z) h k = absurd k
+no-more-join (Some x) (Some y) None h k = tt
+no-more-join (Some x) (Some y) (Some z) h k = omega arith
+
 pub no-more-late : (a : Option ℕ) → NoMore a None
 no-more-late None = tt
 no-more-late (Some x) = tt

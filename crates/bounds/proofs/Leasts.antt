@@ -90,6 +90,9 @@ first-is p k (suc n) r is =
       | inr z ↦ first-step p k n r z (first-is p (k + 1) n r (sym (cond-false (p k) (Some k) (leastFrom p (k + 1) n) z) ∙ is))
     ]
 
+pub least-none : (p : ℕ → Bool) (k n : ℕ) → leastFrom p k n ≡ None → (l : ℕ) → k ≤ l → l < k + n → p l ≡ true → ⊥
+least-none p k n is = first-is p k n None is
+
 module _ (m : ℕ) (i : Row) (load : ℕ → ℕ) where
   least-of : (r : Option ℕ) → leastFit m i load ≡ r → Least m i load r
   least-of None is =

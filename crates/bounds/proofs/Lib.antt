@@ -20,3 +20,4 @@ pub mod Tallies
 pub mod Wcets
 pub mod Works
 pub mod Writes
+pub mod Holding

@@ -16,7 +16,7 @@ use Rattle.bounds.specs.declared.lc.Lc.{Lc}
 use Rattle.bounds.specs.declared.named.NamedTest.{NamedTest}
 use Rattle.bounds.specs.declared.named.NamedTest.the-variants.{ByDeadline, ByResponse, ByLimited}
 use Rattle.bounds.specs.Questions.{Laws}
-use Rattle.bounds.specs.Named.{namedAnswer, Names, MadeNamed}
+use Rattle.bounds.specs.Named.{namedAnswer, IsNamed, MadeNamed}
 use Rattle.bounds.specs.Made.{MadeOn}
 use Rattle.bounds.proofs.DaLaws.{da-laws}
 use Rattle.bounds.proofs.ResponseLoads.{rta-laws, lc-laws}
@@ -37,7 +37,7 @@ pub named-laws : Laws namedAnswer
 named-laws = all each
 
 -- a test that was made on m processors is the one of its name
-pub made-named : {X : Type 0} (on : X → Processors) (name : List ℕ) (m : ℕ) (x : X) (t : NamedTest) → (name ≡ codes "da") ⊎ ((name ≡ codes "rta") ⊎ (name ≡ codes "lc")) → MadeOn on m (Ok x) → (on x .count ≡ m → Names name m t) → MadeNamed name m (Ok t)
+pub made-named : {X : Type 0} (on : X → Processors) (name : List ℕ) (m : ℕ) (x : X) (t : NamedTest) → (name ≡ codes "da") ⊎ ((name ≡ codes "rta") ⊎ (name ≡ codes "lc")) → MadeOn on m (Ok x) → (on x .count ≡ m → IsNamed name m t) → MadeNamed name m (Ok t)
 made-named on name m x t known made is = (
   (λ bad. absurd (let no′ = made .0 (λ allowed. bad (known, allowed)) in let o : _≡_ {A = ℕ} 0 1 = cc in omega arith)),
   (λ h. let new = made .1 (h .1) in let same : x ≡ new .0 = (let e = new .1 in cc) in (t, refl, is (ap (λ y. on y .count) same ∙ new .2))),

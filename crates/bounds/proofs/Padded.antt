@@ -7,7 +7,7 @@ use native.Mathlib.Omega.{arith}
 use lib.ListN.{length, getD, replicate}
 use Rattle.std.proofs.shelf.Lists.{ext-getD, getD-take, getD-append-left, getD-append-right, getD-replicate, length-append, length-replicate, length-take-le}
 use Rattle.std.proofs.shelf.Tests.{cases-lt}
-use Rattle.table.proofs.Placed.{nth-next}
+use Rattle.table.proofs.Placed.{nth-at, nth-next}
 use Rattle.table.specs.Places.{nth}
 use Rattle.bounds.specs.Orders.{padded}
 use Rattle.bounds.proofs.Writes.{Written}
@@ -17,6 +17,10 @@ padded-length xs = length-take-le 32 _ (omega (arith, length-append xs (replicat
 
 pub padded-front : (xs : List ℕ) (j : ℕ) → j < length xs → length xs ≤ 32 → getD (padded xs) j 0 ≡ getD xs j 0
 padded-front xs j h few = getD-take 32 (xs ++ replicate 32 0) j 0 (omega arith) ∙ getD-append-left xs (replicate 32 0) 0 j h
+
+-- the same by row number
+pub padded-at : (xs : List ℕ) (k : ℕ) → 1 ≤ k → k ≤ length xs → length xs ≤ 32 → nth (padded xs) k 0 ≡ nth xs k 0
+padded-at xs k low high few = nth-at (padded xs) k 0 low ∙ padded-front xs (k - 1) (omega arith) few ∙ sym (nth-at xs k 0 low)
 
 padded-back : (xs : List ℕ) (j : ℕ) → length xs ≤ j → j < 32 → getD (padded xs) j 0 ≡ 0
 padded-back xs j h l =

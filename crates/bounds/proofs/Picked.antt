@@ -21,13 +21,13 @@ use Rattle.bounds.proofs.Sums.{sum-same, sum-part}
 none-seen : (j : ℕ) → getD (replicate 32 false) j false ≡ false
 none-seen j = sym (nth-next (replicate 32 false) j false) ∙ nth-replicate 32 false (j + 1)
 
-count-none : (n : ℕ) → sumOver (replicate 32 false) (λ _. 1) n ≡ 0
+pub count-none : (n : ℕ) → sumOver (replicate 32 false) (λ _. 1) n ≡ 0
 unfolding sumTo
 count-none zero = refl
 count-none (suc n) = omega (arith, count-none n, cond-false {A = ℕ} (nth (replicate 32 false) (suc n) false) 1 0 (nth-replicate 32 false (suc n)))
 
 -- one more is chosen
-count-set : (s : List Bool) (p n : ℕ) → p < n → p < length s → getD s p false ≡ false → sumOver (set s p true) (λ _. 1) n ≡ sumOver s (λ _. 1) n + 1
+pub count-set : (s : List Bool) (p n : ℕ) → p < n → p < length s → getD s p false ≡ false → sumOver (set s p true) (λ _. 1) n ≡ sumOver s (λ _. 1) n + 1
 unfolding sumTo
 count-set s p zero l long z = absurd (omega arith)
 count-set s p (suc n) l long z =

@@ -34,10 +34,10 @@ allTo-fails p (suc n) k low high h =
       | inr d ↦ and-right (p (suc n)) (allTo p n) (allTo-fails p n k low (omega arith) h)
     ]
 
-allTo-at : (p : ℕ → Bool) (n k : ℕ) → allTo p n ≡ true → 1 ≤ k → k ≤ n → p k ≡ true
+pub allTo-at : (p : ℕ → Bool) (n k : ℕ) → allTo p n ≡ true → 1 ≤ k → k ≤ n → p k ≡ true
 allTo-at p n k h low high = elim (cases-bool (p k)) [ inl y ↦ y | inr z ↦ absurd (both-ways (allTo p n) (allTo-fails p n k low high z) h) ]
 
-allTo-from : (p : ℕ → Bool) (n : ℕ) → ((k : ℕ) → 1 ≤ k → k ≤ n → p k ≡ true) → allTo p n ≡ true
+pub allTo-from : (p : ℕ → Bool) (n : ℕ) → ((k : ℕ) → 1 ≤ k → k ≤ n → p k ≡ true) → allTo p n ≡ true
 unfolding allTo
 allTo-from p zero h = refl
 allTo-from p (suc n) h = and-from (p (suc n)) (allTo p n) (h (suc n) (omega arith) (omega arith)) (allTo-from p n (λ k low high. h k low (omega arith)))

@@ -64,9 +64,10 @@ pub record Tallied (held : List ℕ) (n y : ℕ) (t : Tally) : Type 0 where
   pub least : (k : ℕ) → 1 ≤ k → k ≤ n → y < nth held k 0 → t .least ≤ nth held k 0
   pub rest : t .rest ≡ sumTo (λ k. cond (ltb y (nth held k 0)) 0 (nth held k 0)) n
 
--- the next cap to try on m processors: none below it can do
+-- a cap below which none can do, by the loads above the cap and the rest
 abbrev pub jump : Tally → ℕ → ℕ
 jump t m = cond (leb m (t .over)) (t .least + 1) (cond (eqb (t .over) 0) (t .rest / m + 1) (min (t .rest / (m - t .over) + 1) (t .least + 1)))
 
+-- the next cap to try on m processors: none below it can do
 abbrev pub nextCap : Tally → ℕ → ℕ
 nextCap t m = max (t .sum / m + 1) (jump t m)

@@ -24,6 +24,7 @@ MadeProcessors m r = Asks (Allowed m) (r ≡ Err (BadTest nowhere)) ((p : Proces
 abbrev pub MadeOn : {T : Type 0} → (T → Processors) → ℕ → Result T Fault → Type 0
 MadeOn {T} processors m r = Asks (Allowed m) (r ≡ Err (BadTest nowhere)) ((t : T) × (r ≡ Ok t) × (processors t .count ≡ m))
 
+-- making each of the three tests
 abbrev pub MadeDa : ℕ → Result Da Fault → Type 0
 MadeDa = MadeOn (λ (t : Da). t .processors)
 

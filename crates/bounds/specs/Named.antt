@@ -26,10 +26,10 @@ namedAnswer (ByResponse t) = rta (t .processors .count)
 namedAnswer (ByLimited t) = lc (t .processors .count)
 
 -- the test is the one of this name, on m processors
-abbrev pub Names : List ℕ → ℕ → NamedTest → Type 0
-Names name m (ByDeadline t) = (name ≡ codes "da") × (t .processors .count ≡ m)
-Names name m (ByResponse t) = (name ≡ codes "rta") × (t .processors .count ≡ m)
-Names name m (ByLimited t) = (name ≡ codes "lc") × (t .processors .count ≡ m)
+abbrev pub IsNamed : List ℕ → ℕ → NamedTest → Type 0
+IsNamed name m (ByDeadline t) = (name ≡ codes "da") × (t .processors .count ≡ m)
+IsNamed name m (ByResponse t) = (name ≡ codes "rta") × (t .processors .count ≡ m)
+IsNamed name m (ByLimited t) = (name ≡ codes "lc") × (t .processors .count ≡ m)
 
 -- the test is known, and m is allowed
 abbrev pub Known : List ℕ → ℕ → Type 0
@@ -37,4 +37,4 @@ Known name m = ((name ≡ codes "da") ⊎ ((name ≡ codes "rta") ⊎ (name ≡ 
 
 -- making the test of a name on m processors: just that, or a refusal
 abbrev pub MadeNamed : List ℕ → ℕ → Result NamedTest Fault → Type 0
-MadeNamed name m r = Asks (Known name m) (r ≡ Err (BadTest nowhere)) ((t : NamedTest) × (r ≡ Ok t) × Names name m t)
+MadeNamed name m r = Asks (Known name m) (r ≡ Err (BadTest nowhere)) ((t : NamedTest) × (r ≡ Ok t) × IsNamed name m t)

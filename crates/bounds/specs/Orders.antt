@@ -47,6 +47,10 @@ unfoldable pub estimated : List Row → List ℕ → List ℕ → ℕ → List �
 estimated rows order bounds zero = wcets rows
 estimated rows order bounds (suc p) = put (estimated rows order bounds p) (taskAt order p) (nth bounds (taskAt order p) 0)
 
+-- nothing is found exactly when this holds
+abbrev pub NoneWhen : {A : Type 0} → Option A → Type 0 → Type 0
+NoneWhen found P = (found ≡ None → P) × (P → found ≡ None)
+
 -- there is exactly one estimate for each row, from its C to its D
 pub record Estimates (rows : List Row) (estimates : List ℕ) : Type 0 where
   pub size : length estimates ≡ length rows
@@ -71,13 +75,21 @@ module _ {T : Type 0} (answer : T → List Row → ℕ → List Bool → List �
       Cases late (Bounded order bounds (length order))
       (λ k. (p : ℕ) × LateAt order bounds p × (taskAt order p ≡ k) × ((q : ℕ) → p ≤ q → q < length order → nth bounds (taskAt order q) 0 ≡ 0))
 
-  -- analyse: the bounds of the order and its first late task, if there is one
+  -- an order holds: from the top down no task is late, with the bounds found so far as estimates
+  abbrev pub Holds : List ℕ → Type 0
+  Holds order = (bounds : List ℕ) × Bounded order bounds (length order)
+
+  -- an order has a late task
+  abbrev pub HasLate : List ℕ → Type 0
+  HasLate order = (bounds : List ℕ) × (p : ℕ) × LateAt order bounds p
+
+  -- analyse: the bounds of the order and its first late task; there is none exactly when the order holds
   abbrev pub Analyses : List ℕ → List ℕ → Result (Option ℕ) Fault → List ℕ → Type 0
   Analyses order before r after =
       Asks (1 ≤ length rows) ((r ≡ Err Empty) × (after ≡ before))
       (Asks (Order (length rows) order) ((r ≡ Err (BadOrder nowhere)) × (after ≡ before))
       (Asks (length before ≡ length rows) ((r ≡ Err BadLength) × (after ≡ before))
-      ((late : Option ℕ) × (r ≡ Ok late) × Found order late after × (length after ≡ length before))))
+      ((late : Option ℕ) × (r ≡ Ok late) × Found order late after × (length after ≡ length before) × NoneWhen late (Holds order))))
 
   -- the answer for the task that has p tasks above it, with these estimates
   abbrev pub answerWith : List ℕ → List ℕ → ℕ → Option ℕ
@@ -93,9 +105,13 @@ module _ {T : Type 0} (answer : T → List Row → ℕ → List Bool → List �
       Cases miss ((p : ℕ) → p < length order → MeetsAt order estimates p)
       (λ x. (p : ℕ) × (p < length order) × (taskAt order p ≡ x .task) × (answerWith order estimates p ≡ x .bound) × (MeetsAt order estimates p → ⊥) × ((q : ℕ) → q < p → MeetsAt order estimates q))
 
-  -- check: the first task of the order that misses its estimate, if there is one
+  -- an order passes lows and highs, by row: each task's answer, with the lows as estimates, is at most its high
+  abbrev pub PassesBy : List ℕ → List ℕ → List ℕ → Type 0
+  PassesBy lows highs order = (p : ℕ) → p < length order → NoMore (answer t rows (taskAt order p) (first order p) lows) (Some (nth highs (taskAt order p) 0))
+
+  -- check: the first task of the order that misses its estimate; there is none exactly when the order passes the estimates as lows and highs
   abbrev pub Checks : List ℕ → List ℕ → Result (Option Miss) Fault → Type 0
   Checks order estimates r =
       Asks (1 ≤ length rows) (r ≡ Err Empty)
       (Asks (Order (length rows) order × Estimates rows estimates) (r ≡ Err (BadOrder nowhere))
-      ((miss : Option Miss) × (r ≡ Ok miss) × FirstMiss order estimates miss))
+      ((miss : Option Miss) × (r ≡ Ok miss) × FirstMiss order estimates miss × NoneWhen miss (PassesBy (padded estimates) (padded estimates) order)))

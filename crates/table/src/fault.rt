@@ -39,7 +39,7 @@ pub enum Fault {
     BadTest(Place),
     /// The table has no row at all.
     Empty,
-    /// The order does not name each row once.
+    /// The order does not name each row once, or there is not one estimate for each row from its C to its D.
     BadOrder(Place),
     /// The list for the bounds has not exactly one place for each row.
     BadLength,

@@ -2,8 +2,10 @@ use mathlib.Core.Path.{refl, sym, subst}
 use native.Mathlib.Omega.{arith}
 use borrow.Author.Needs.{needs}
 use Rattle.std.proofs.shelf.Tests.{both-ways}
+use Rattle.table.specs.Rows.{view}
 use Rattle.table.proofs.Asked.{met, missed}
 use Rattle.bounds.specs.Orders.{Order}
+use Rattle.bounds.proofs.Holding.{late-when}
 use Rattle.bounds.proofs.analyse.analyse.Needs as need
 
 pub returns-then-not-is-order : need.returns-then-not-is-order
@@ -23,4 +25,4 @@ find-bounds-requires g c κs =
 pub returns : need.returns
 returns g c =
     let order = subst (λ n. Order n (c .args .order .now)) (c .len-rows .ensures .rows) (c .is-order .ensures .0 (c .if-not-is-order .left)) in
-    met (search needs) (met order (met (search needs) (_, refl, c .find-bounds .ensures, c .find-bounds .kept .bounds)))
+    met (search needs) (met order (met (search needs) (_, refl, c .find-bounds .ensures, c .find-bounds .kept .bounds, late-when (g .T·Test .answer) (c .args .test .now) (view (c .args .table .now)) (c .args .order .now) _ _ (c .find-bounds .ensures))))

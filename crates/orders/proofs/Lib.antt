@@ -1,0 +1,8 @@
+pub mod Withins
+pub mod Sets
+pub mod Fills
+pub mod Audsley
+pub mod Narrows
+pub mod Moves
+pub mod Grows
+pub mod Related

@@ -1,0 +1,4 @@
+pub mod Ranges
+pub mod Assigner
+pub mod Growth
+pub mod Relations

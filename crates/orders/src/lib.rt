@@ -1,0 +1,4 @@
+pub mod assign;
+mod end;
+pub mod grow;
+pub mod range;
