@@ -141,7 +141,7 @@ fn print_standing(rt: &impl Print, name: &str) -> Result<(), AnyError> {
         Ok(Standing::Open(order)) => {
             for place in 0..3 {
                 let task_name = name_of(order[place]);
-                println!(rt, "{name} open {task_name}")?;
+                println!(rt, "{name} open {task_name} - -")?;
             }
         }
         Ok(Standing::Closed(grown)) => {

@@ -48,5 +48,5 @@ module _ {T : Type 0} (answer : T → List Row → ℕ → List Bool → List �
   Assigns found = Cases found (assigned ≡ None) (λ tasks. assigned ≡ Some (take (length rows) tasks))
 
   -- it finds an order exactly when the range is open, and what it finds lists every row once and passes
-  abbrev pub Decides : Option (List ℕ) → Type 0
-  Decides found = Within rows r → Cases found (Closed answer t rows r) (λ tasks. Admits answer t rows r (take (length rows) tasks))
+  abbrev pub Settles : Option (List ℕ) → Type 0
+  Settles found = Within rows r → Cases found (Closed answer t rows r) (λ tasks. Admits answer t rows r (take (length rows) tasks))

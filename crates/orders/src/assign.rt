@@ -5,7 +5,7 @@ ghost use mathlib.Core.Bool.{_&&_};
 ghost use lib.Dec.{leb};
 ghost use lib.ListN.{length};
 ghost use Rattle.table.specs.Rows.{view};
-ghost use Rattle.orders.specs.Assigner.{candidate, full, Assigns, Decides};
+ghost use Rattle.orders.specs.Assigner.{candidate, full, Assigns, Settles};
 ghost use Rattle.orders.specs.Ranges.{withinb};
 ghost use Rattle.orders.specs.Relations.{OneOrOther, PassesOwn, HoldsBelow};
 use crate::range::Range;
@@ -79,7 +79,7 @@ fn passes_at<T: Test>(
 /// the lowest up, each by the lowest-numbered task left that passes there.
 pub fn assign<T: Test>(test: &T, table: &Table<Row>, range: &Range) -> Option<[usize; 32]>
     ensures rule { λ r. ⌜ Assigns answer (now (test .entry)) (view (now (table .entry))) (now (range .entry)) r ⌝ }
-    ensures decides { λ r. ⌜ Decides answer (now (test .entry)) (view (now (table .entry))) (now (range .entry)) r ⌝ }
+    ensures decides { λ r. ⌜ Settles answer (now (test .entry)) (view (now (table .entry))) (now (range .entry)) r ⌝ }
     ensures either { λ _. ⌜ OneOrOther answer (now (test .entry)) (view (now (table .entry))) ⌝ }
     ensures own { λ _. ⌜ PassesOwn answer (now (test .entry)) (view (now (table .entry))) ⌝ }
     ensures below { λ _. ⌜ HoldsBelow answer (now (test .entry)) (view (now (table .entry))) ⌝ }
@@ -95,15 +95,16 @@ pub fn assign<T: Test>(test: &T, table: &Table<Row>, range: &Range) -> Option<[u
         if level == 0 {
             break Some(order);
         }
-        let mut k = 1;
+        let mut tried = 0;
         let task = 'candidates: loop {
-            if k > rows {
+            if tried == rows {
                 break 'levels None;
             }
+            let k = tried + 1;
             if passes_at(test, table, range, &left, k) {
                 break k;
             }
-            k += 1;
+            tried += 1;
         };
         level -= 1;
         left[task - 1] = false;

@@ -1,9 +1,12 @@
-// Asks each test questions on pseudo-random tables, prints a checksum of the answers, and the times to standard error.
+// Asks each test questions on pseudo-random tables, and grows ranges of such tables. Prints a checksum of the
+// answers and of the grown ranges, and the times to standard error.
 // An argument says how many tables of each kind there are.
 use bounds::named::NamedTest;
 use bounds::named::ask::NamedTestTest;
 use bounds::question::Question;
 use bounds::test::Test;
+use orders::grow::grow;
+use orders::range::Range;
 use std::env;
 use std::error::AnyError;
 use std::rt::Clock;
@@ -63,6 +66,19 @@ const KINDS: [Kind; 6] = [
     },
 ];
 
+/// What is measured on each table: a question for each task, or one growth.
+#[derive(Clone, Copy)]
+enum Measured {
+    Questions,
+    Growth,
+}
+
+/// The tables of which ranges are grown.
+const GROWN: Kind = Kind {
+    rows: 20,
+    longest: 1_000_000,
+};
+
 /// A table, an estimate for each row, and the set of the tasks above one.
 #[derive(Drop)]
 struct Case {
@@ -108,20 +124,58 @@ fn ask_all(test: &NamedTest, case: &mut Case, mut sum: u32) -> u32 {
     sum
 }
 
+// A list of estimates a fourth of the way from each wcet to the row's estimate, which no order passes.
+fn tight_estimates(case: &Case) -> [u32; 32] {
+    let mut list = case.estimates;
+    let rows = case.table.rows();
+    for place in 0..rows.len().min(32) {
+        let wcet = rows[place].wcet();
+        list[place] = wcet.saturating_add(list[place].saturating_sub(wcet) / 4);
+    }
+    list
+}
+
+// That list, grown as a range, folded into a checksum.
+fn grow_one(test: &NamedTest, case: &Case, mut sum: u32) -> u32 {
+    let list = tight_estimates(case);
+    let range = Range {
+        lows: list,
+        highs: list,
+    };
+    let grown = grow(test, &case.table, &range);
+    for place in 0..32 {
+        sum = sum.wrapping_mul(31).wrapping_add(grown.lows[place]);
+        sum = sum.wrapping_mul(31).wrapping_add(grown.highs[place]);
+    }
+    sum
+}
+
 // The checksum of a test on tables of a kind.
-fn checksum(test: &NamedTest, kind: Kind, tables: u32) -> u32 {
+fn checksum(test: &NamedTest, measured: Measured, kind: Kind, tables: u32) -> u32 {
     let mut numbers = Numbers { state: 1 };
     let mut sum = 0;
     for _ in 0..tables {
         let mut case = make_case(kind, &mut numbers);
-        sum = ask_all(test, &mut case, sum);
+        sum = match measured {
+            Measured::Questions => ask_all(test, &mut case, sum),
+            Measured::Growth => grow_one(test, &case, sum),
+        };
     }
     sum
+}
+
+// How many questions or growths there are on each table.
+fn on_each(measured: Measured, kind: Kind) -> u128 {
+    match measured {
+        Measured::Questions => kind.rows as u128,
+        Measured::Growth => 1,
+    }
 }
 
 fn time_test(
     rt: &(impl Print + Eprint + Clock),
     name: &str,
+    measured: Measured,
     kind: Kind,
     tables: u32,
 ) -> Result<(), AnyError> {
@@ -131,10 +185,12 @@ fn time_test(
     let rows = kind.rows;
     let longest = kind.longest;
     let start = Instant::now(rt)?;
-    let sum = checksum(&test, kind, tables);
+    let sum = checksum(&test, measured, kind, tables);
     let taken = start.elapsed(rt)?.as_nanos();
-    let questions = u128::from(tables).saturating_mul(rows as u128).max(1);
-    let each = taken / questions;
+    let times = u128::from(tables)
+        .saturating_mul(on_each(measured, kind))
+        .max(1);
+    let each = taken / times;
     println!(rt, "{name} {rows} {longest} {sum}")?;
     eprintln!(rt, "{name} {rows} {longest}: {each} ns")?;
     Ok(())
@@ -153,8 +209,12 @@ fn run(rt: &LibcRuntime) -> Result<(), AnyError> {
     println!(rt, "test rows longest checksum")?;
     for name in ["da", "rta", "lc"] {
         for kind in KINDS {
-            time_test(rt, name, kind, tables)?;
+            time_test(rt, name, Measured::Questions, kind, tables)?;
         }
+    }
+    println!(rt, "test rows longest grown")?;
+    for name in ["da", "rta", "lc"] {
+        time_test(rt, name, Measured::Growth, GROWN, tables)?;
     }
     Ok(())
 }

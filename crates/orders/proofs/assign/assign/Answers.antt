@@ -1,7 +1,7 @@
 use mathlib.Core.List.{List, [], _∷_}
 use mathlib.Core.Path.{_≡_, refl, sym, ap, _∙_, subst}
 use mathlib.Core.Bool.{false}
-use Prim.Native.Nat.{ℕ, _-_, _≤_}
+use Prim.Native.Nat.{ℕ, _+_, _-_, _≤_}
 use native.Mathlib.Omega.{arith}
 use lib.ListN.{length, take, drop, set, replicate}
 use Rattle.std.proofs.shelf.Lists.{length-take, length-set, length-replicate}
@@ -23,7 +23,7 @@ pub candidates-again : need.candidates-again
 candidates-again g c =
     let p = candidate (g .T·Test .answer) (c .args .test .now) (view (c .args .table .now)) (c .args .range .now) (c .levels .left) in
     let inv = c .candidates .inv in
-    (omega arith, omega arith, sym (least-later p (c .candidates .k) (c .len-rows .result) (c .if-k-rows .left) (sym (c .if-passes-at .ensures tt))) ∙ inv .2)
+    (omega arith, sym (least-later p (c .candidates .tried + 1) (c .len-rows .result) (omega (arith, inv .0, c .if-tried-rows .left)) (sym (c .if-passes-at .ensures tt))) ∙ inv .1)
 
 pub levels-holds : need.levels-holds
 levels-holds g c =
@@ -36,20 +36,20 @@ pub levels-again : need.levels-again
 levels-again g c =
     let rows = view (c .args .table .now) in
     let n = c .len-rows .result in
-    let k = c .candidates .k in
+    let k = c .candidates .tried + 1 in
     let left = c .levels .left in
     let level = c .levels .level in
     let order = c .levels .order in
     let p = candidate (g .T·Test .answer) (c .args .test .now) rows (c .args .range .now) left in
     let filled = fill (g .T·Test .answer) (c .args .test .now) rows (c .args .range .now) in
     let few : n ≤ 32 = omega (arith, c .len-rows .ensures .len, c .args .table .now .ok) in
-    let found : leastFrom p 1 (length rows) ≡ Some k = ap (leastFrom p 1) (sym (c .len-rows .ensures .rows)) ∙ sym (c .candidates .inv .2) ∙ least-here p k n (c .if-k-rows .left) (sym (c .if-passes-at .ensures tt)) in
+    let found : leastFrom p 1 (length rows) ≡ Some k = ap (leastFrom p 1) (sym (c .len-rows .ensures .rows)) ∙ sym (c .candidates .inv .1) ∙ least-here p k n (omega (arith, c .candidates .inv .0, c .if-tried-rows .left)) (sym (c .if-passes-at .ensures tt)) in
     let pos = c .if-level-eq0 .left in
     let more = fill-more (g .T·Test .answer) (c .args .test .now) rows (c .args .range .now) level left (drop level (take n order)) k (omega arith) found in
     let placed = placed-more order n level k (omega arith) (c .levels .inv .0) (omega (arith, c .levels .inv .1)) in (
       omega (arith, c .levels .inv .0),
       length-set order (level - 1) k ∙ c .levels .inv .1,
-      ap (filled (level - 1) (set left (k - 1) false)) (sym placed) ∙ ap (λ s. filled (level - 1) s (k ∷ drop level (take n order))) (sym (put-at left k false (c .candidates .inv .0))) ∙ sym more ∙ c .levels .inv .2,
+      ap (filled (level - 1) (set left (k - 1) false)) (sym placed) ∙ ap (λ s. filled (level - 1) s (k ∷ drop level (take n order))) (sym (put-at left k false (omega arith))) ∙ sym more ∙ c .levels .inv .2,
     )
 
 pub returns-then-level-eq0 : need.returns-then-level-eq0
@@ -65,14 +65,14 @@ returns-then-level-eq0 g c =
     (sym (c .levels .inv .2) ∙ placed ∙ ap (λ l. Some (drop l (take n order))) zero ∙ ap (λ m. Some (take m order)) (c .len-rows .ensures .rows)) in
     record { rule = is; decides = λ h. decided (g .T·Test·met .kept) (c .args .test .now) rows (c .args .range .now) few h (Some (take (length rows) order)) is; either = one-or-other (g .T·Test .answer) (c .args .test .now) rows; own = own-bounds (g .T·Test·met .kept) (c .args .test .now) rows few; below = holds-below (g .T·Test·met .kept) (c .args .test .now) rows few }
 
-pub returns-then-k-rows : need.returns-then-k-rows
-returns-then-k-rows g c =
+pub returns-then-tried-rows : need.returns-then-tried-rows
+returns-then-tried-rows g c =
     let rows = view (c .args .table .now) in
     let n = c .len-rows .result in
     let p = candidate (g .T·Test .answer) (c .args .test .now) rows (c .args .range .now) (c .levels .left) in
     let few : length rows ≤ 32 = omega (arith, c .len-rows .ensures .rows, c .len-rows .ensures .len, c .args .table .now .ok) in
     let within = ap (λ xs. withinb xs (c .args .range .now)) (sym (c .rows .ensures .value)) ∙ sym (c .if-not-is-range .ensures tt) in
-    let nobody : leastFrom p 1 (length rows) ≡ None = ap (leastFrom p 1) (sym (c .len-rows .ensures .rows)) ∙ sym (c .candidates .inv .2) ∙ least-end p (c .candidates .k) n (c .if-k-rows .taken) in
+    let nobody : leastFrom p 1 (length rows) ≡ None = ap (leastFrom p 1) (sym (c .len-rows .ensures .rows)) ∙ sym (c .candidates .inv .1) ∙ least-end p (c .candidates .tried + 1) n (omega (arith, c .if-tried-rows .taken)) in
     let pos = c .if-level-eq0 .left in
     let failed = fill-fails (g .T·Test .answer) (c .args .test .now) rows (c .args .range .now) (c .levels .level) (c .levels .left) (drop (c .levels .level) (take n (c .levels .order))) (omega arith) nobody in
     let is = assigned-by (g .T·Test .answer) (c .args .test .now) rows (c .args .range .now) within n (c .len-rows .ensures .rows) None (sym (c .levels .inv .2) ∙ failed) in

@@ -11,10 +11,10 @@ use Rattle.orders.proofs.assign.assign.Given as given
 abbrev pub Inv-candidates : given.InvT-candidates
 Inv-candidates g l =
     let p = candidate (g .T·Test .answer) (l .test) (view (l .table)) (l .range) (l .left) in
-    (1 ≤ l .k) × (l .k ≤ l .rows + 1) × (leastFrom p (l .k) (l .rows + 1 - l .k) ≡ leastFrom p 1 (l .rows))
+    (l .tried ≤ l .rows) × (leastFrom p (l .tried + 1) (l .rows + 1 - (l .tried + 1)) ≡ leastFrom p 1 (l .rows))
 
 abbrev pub μ-candidates : given.MeasureT-candidates
-μ-candidates g l = l .rows + 1 - l .k
+μ-candidates g l = l .rows - l .tried
 
 -- what is left of the levels gives the order
 abbrev pub Inv-levels : given.InvT-levels
