@@ -15,7 +15,7 @@ use Rattle.bounds.specs.Questions.{Sound, In}
 use Rattle.bounds.specs.Loads.{work, capOf, carried, plain, sumTo, totalOf, sumOver}
 use Rattle.bounds.specs.Orders.{wcets}
 use Rattle.bounds.specs.Responses.{Choice, Greatest, greatest, carriedLoad, plainLoad, extra, limitedLoad}
-use Rattle.bounds.specs.Climbs.{Lists, workAt, heldTo, Picked, Held}
+use Rattle.bounds.specs.Climbs.{Lists, workAt, heldTo, Picked, Held, NeverFalls}
 use Rattle.bounds.proofs.Greatests.{greatest-is, greatest-one}
 use Rattle.bounds.proofs.Sounds.{row-read}
 use Rattle.bounds.proofs.Sums.{sum-same, sum-mono, sum-add}
@@ -183,3 +183,7 @@ module _ (rows : List Row) (i : ℕ) (s : List Bool) (e : List ℕ) (few : lengt
       | inr z ↦ omega (arith, mixes k a b, cond-false (isChosen k) (nth with′ k 0) (nth without k 0) z, works-small rows i s (wcets rows) (wcets-within rows few) l without plains short k a b)
     ];
   }
+
+-- what holds the load of a window shows that a longer one has no less, whoever carries load in
+pub never-falls : (load : ℕ → ℕ) (i : Row) (n l : ℕ) (held : List ℕ) → Held load i n l held → NeverFalls load l
+never-falls load i n l held h l′ le = omega (arith, h .here, h .later l′ le, sum-mono (λ k. min (nth held k 0) (capOf i l)) (λ k. min (nth held k 0) (capOf i l′)) n (λ k low high. omega arith))

@@ -57,6 +57,10 @@ pub record Held (load : ℕ → ℕ) (i : Row) (n l : ℕ) (held : List ℕ) : T
   pub later : (l′ : ℕ) → l ≤ l′ → heldTo held n (capOf i l′) ≤ load l′
   pub small : (k : ℕ) → 1 ≤ k → k ≤ n → nth held k 0 ≤ 2000000
 
+-- from a window l on, the load never falls
+abbrev pub NeverFalls : (ℕ → ℕ) → ℕ → Type 0
+NeverFalls load l = (l′ : ℕ) → l ≤ l′ → load l ≤ load l′
+
 -- the tally of the first n loads of a list at a cap y
 pub record Tallied (held : List ℕ) (n y : ℕ) (t : Tally) : Type 0 where
   pub sum : t .sum ≡ heldTo held n y

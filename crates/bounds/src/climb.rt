@@ -4,7 +4,7 @@ ghost use Prim.Native.Nat.{ℕ, _≤_, _<_};
 ghost use lib.ListN.{length};
 ghost use Rattle.table.specs.Places.{nth};
 ghost use Rattle.table.specs.Rows.{row};
-ghost use Rattle.bounds.specs.Climbs.{loadOf, Held, Tallied, nextCap, climbs};
+ghost use Rattle.bounds.specs.Climbs.{loadOf, Held, NeverFalls, Tallied, nextCap, climbs};
 ghost use Rattle.bounds.specs.Orders.{wcets as costs};
 ghost use Rattle.bounds.specs.Questions.{Sound, asked};
 ghost use Rattle.bounds.specs.Responses.{leastFit};
@@ -37,7 +37,8 @@ fn held_loads(
     requires low { ⌜ row (now rows) task .wcet ≤ window ⌝ }
     requires short { ⌜ window ≤ 1000000 ⌝ }
     requires cost { ⌜ now wcets ≡ costs (now rows) ⌝ }
-    ensures { λ r. ⌜ Held (loadOf carry (now (rows .entry)) task (now (above .entry)) (now (estimates .entry))) (row (now (rows .entry)) task) (length (now (rows .entry))) window r ⌝ }
+    ensures held { λ r. ⌜ Held (loadOf carry (now (rows .entry)) task (now (above .entry)) (now (estimates .entry))) (row (now (rows .entry)) task) (length (now (rows .entry))) window r ⌝ }
+    ensures rises { λ _. ⌜ NeverFalls (loadOf carry (now (rows .entry)) task (now (above .entry)) (now (estimates .entry))) window ⌝ }
 {
     let carried = works(rows, above, estimates, window);
     match carry {

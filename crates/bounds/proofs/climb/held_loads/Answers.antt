@@ -6,7 +6,7 @@ use Rattle.table.specs.declared.row.Row.{Row}
 use Rattle.table.specs.Places.{nth}
 use Rattle.table.specs.Rows.{row}
 use Rattle.bounds.specs.Climbs.{loadOf, Held, Lists, workAt}
-use Rattle.bounds.proofs.Helds.{Within, wcets-within, held-all, held-limited}
+use Rattle.bounds.proofs.Helds.{Within, wcets-within, held-all, held-limited, never-falls}
 use Rattle.bounds.proofs.Sounds.{row-named}
 use Rattle.bounds.proofs.climb.held_loads.Needs as need
 
@@ -27,8 +27,9 @@ returns-in-All c =
     let rows = c .args .rows .now in
     let e = c .args .estimates .now in
     let sound = c .pre .sound in
-    subst (λ x. Held (loadOf x rows (c .args .task) (c .args .above .now) e) (row rows (c .args .task)) (length rows) (c .args .window) (c .works-carried .result)) (sym (c .in-All .is))
-    (held-all rows (c .args .task) (c .args .above .now) e (λ k h. (sound .low k h, sound .high k h)) (c .args .window) (c .works-carried .result) (c .works-carried .ensures) (c .pre .short))
+    let holds = subst (λ x. Held (loadOf x rows (c .args .task) (c .args .above .now) e) (row rows (c .args .task)) (length rows) (c .args .window) (c .works-carried .result)) (sym (c .in-All .is))
+    (held-all rows (c .args .task) (c .args .above .now) e (λ k h. (sound .low k h, sound .high k h)) (c .args .window) (c .works-carried .result) (c .works-carried .ensures) (c .pre .short)) in
+    record { held = holds; rises = never-falls (loadOf (c .args .carry) rows (c .args .task) (c .args .above .now) e) (row rows (c .args .task)) (length rows) (c .args .window) (c .works-carried .result) holds }
 
 pub returns-in-AtMost : need.returns-in-AtMost
 returns-in-AtMost c =
@@ -40,11 +41,12 @@ returns-in-AtMost c =
     let sound = c .pre .sound in
     let own = row-named rows i (c .index-rows-task .result) (sound .names) (c .index-rows-task .is) in
     let wcet : c .wcet .result ≡ row rows i .wcet = c .wcet .ensures ∙ ap (λ (r : Row). r .wcet) (sym own) in
-    subst (λ x. Held (loadOf x rows i s e) (row rows i) (length rows) l (c .mixed .result)) (sym (c .in-AtMost .is))
+    let holds = subst (λ x. Held (loadOf x rows i s e) (row rows i) (length rows) l (c .mixed .result)) (sym (c .in-AtMost .is))
     (held-limited rows i s e (sound .few) (λ k h. (sound .low k h, sound .high k h)) (c .in-AtMost .limit) l (c .pre .low) (c .pre .short)
     (c .works-carried .result) (c .works-plain .result) (c .extras-of-extras .result) (c .picks-chosen .result) (c .mixed .result)
     (c .works-carried .ensures)
     (subst (λ w. Lists (length rows) (workAt rows s w l) (c .works-plain .result)) (c .pre .cost) (c .works-plain .ensures))
     (subst (λ w. Lists (length rows) (λ k. min (nth (c .works-carried .result) k 0) (l - w + 1) - min (nth (c .works-plain .result) k 0) (l - w + 1)) (c .extras-of-extras .result)) wcet (c .extras-of-extras .ensures))
     (c .picks-chosen .ensures)
-    (c .mixed .ensures))
+    (c .mixed .ensures)) in
+    record { held = holds; rises = never-falls (loadOf (c .args .carry) rows i s e) (row rows i) (length rows) l (c .mixed .result) holds }

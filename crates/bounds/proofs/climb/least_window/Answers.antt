@@ -36,7 +36,7 @@ returns-then-tally-count c =
     let wcet : c .wcet-wcet .result ≡ row rows i .wcet = c .wcet-wcet .ensures ∙ ap (λ (r : Row). r .wcet) (sym own) in
     let deadline : c .deadline .result ≡ row rows i .deadline = c .deadline .ensures ∙ ap (λ (r : Row). r .deadline) (sym own) in
     turn-found (c .count-count .result) (omega (arith, c .count-count .ensures, c .args .m .ok)) (row rows i) (loadOf (c .args .carry) rows i (c .args .above .now) (c .args .estimates .now)) (c .loop-cap .cap) (c .loop-cap .inv .0) (c .loop-cap .inv .1)
-    (c .wcet-wcet .result) wcet (c .held-loads-held .result) (length rows) (c .tally-of-tally .result) (c .held-loads-held .ensures) (c .tally-of-tally .ensures .sums)
+    (c .wcet-wcet .result) wcet (c .held-loads-held .result) (length rows) (c .tally-of-tally .result) (c .held-loads-held .ensures .held) (c .tally-of-tally .ensures .sums)
     (omega (arith, c .loop-cap-test .taken, wcet, deadline))
     (c .if-tally-count .taken)
     ∙ ap (λ m. leastFit m (row rows i) (loadOf (c .args .carry) rows i (c .args .above .now) (c .args .estimates .now))) (c .count-count .ensures)
@@ -57,7 +57,7 @@ loop-cap-again c =
       omega (arith, c .next-cap-cap .ensures),
       subst (Passed (c .count-count .result) (row rows i) load) (sym (c .next-cap-cap .ensures))
           (turn-passed (c .count-count .result) (omega (arith, c .count-count .ensures, c .args .m .ok)) (row rows i) load (c .loop-cap .cap) (c .loop-cap .inv .0) (c .loop-cap .inv .1)
-          (c .wcet-wcet .result) wcet (c .held-loads-held .result) (length rows) (c .tally-of-tally .result) (c .held-loads-held .ensures) (c .tally-of-tally .ensures .sums)),
+          (c .wcet-wcet .result) wcet (c .held-loads-held .result) (length rows) (c .tally-of-tally .result) (c .held-loads-held .ensures .held) (c .tally-of-tally .ensures .sums)),
     )
 
 pub returns : need.returns
