@@ -2,7 +2,7 @@
 use mathlib.Core.Path.{_≡_}
 use mathlib.Core.List.{List, [], _∷_}
 use mathlib.Core.Bool.{Bool, true, false, cond, _&&_}
-use Prim.Native.Nat.{ℕ, zero, suc, _<_}
+use Prim.Native.Nat.{ℕ, zero, suc, _≤_, _<_}
 use lib.Dec.{leb}
 use lib.ListN.{length, take, set, replicate}
 use Rattle.std.specs.Options.{Cases}
@@ -10,6 +10,7 @@ use Rattle.std.specs.declared.option.Option.{Option}
 use Rattle.std.specs.declared.option.Option.the-variants.{Some, None}
 use Rattle.table.specs.declared.row.Row.{Row}
 use Rattle.table.specs.Places.{nth, put}
+use Rattle.bounds.specs.Orders.{taskAt}
 use Rattle.bounds.specs.Responses.{leastFrom}
 use Rattle.orders.specs.declared.range.Range.{Range}
 use Rattle.orders.specs.Ranges.{high, Within, withinb, Passes, Admits, Open, Closed}
@@ -43,9 +44,9 @@ module _ {T : Type 0} (answer : T → List Row → ℕ → List Bool → List �
   abbrev pub assigned : Option (List ℕ)
   assigned = cond (withinb rows r) (fill (length rows) (full (length rows)) []) None
 
-  -- the assigner gives that order, the highest task first, or none
+  -- the assigner gives that order, the highest task first and 0 past the last, or none
   abbrev pub Assigns : Option (List ℕ) → Type 0
-  Assigns found = Cases found (assigned ≡ None) (λ tasks. assigned ≡ Some (take (length rows) tasks))
+  Assigns found = Cases found (assigned ≡ None) (λ tasks. (assigned ≡ Some (take (length rows) tasks)) × ((p : ℕ) → length rows ≤ p → taskAt tasks p ≡ 0))
 
   -- it finds an order exactly when the range is open, and what it finds lists every row once and passes
   abbrev pub Settles : Option (List ℕ) → Type 0

@@ -4,13 +4,13 @@ use mathlib.Core.Bool.{false}
 use Prim.Native.Nat.{ℕ, _+_, _-_, _≤_}
 use native.Mathlib.Omega.{arith}
 use lib.ListN.{length, take, drop, set, replicate}
-use Rattle.std.proofs.shelf.Lists.{length-take, length-set, length-replicate}
+use Rattle.std.proofs.shelf.Lists.{length-take, length-set, length-replicate, getD-set-other}
 use Rattle.std.proofs.shelf.Tests.{cond-true, cond-false}
 use Rattle.std.specs.declared.option.Option.{Option}
 use Rattle.std.specs.declared.option.Option.the-variants.{Some, None}
 use Rattle.table.specs.Rows.{view}
 use Rattle.table.specs.Places.{put}
-use Rattle.table.proofs.Placed.{put-at}
+use Rattle.table.proofs.Placed.{put-at, nth-next, nth-replicate}
 use Rattle.bounds.specs.Responses.{leastFrom}
 use Rattle.orders.specs.Assigner.{candidate, fill, full, assigned}
 use Rattle.orders.specs.Ranges.{withinb}
@@ -30,7 +30,7 @@ levels-holds g c =
     let n = c .len-rows .result in
     let filled = fill (g .T·Test .answer) (c .args .test .now) (view (c .args .table .now)) (c .args .range .now) in
     let few : n ≤ 32 = omega (arith, c .len-rows .ensures .len, c .args .table .now .ok) in
-    (omega arith, refl, ap (λ s. filled n s (drop n (take n (replicate 32 0)))) (c .all-tasks-left .ensures) ∙ ap (filled n (full n)) (placed-none (replicate 32 0) n (omega (arith, length-replicate {A = ℕ} 32 0))))
+    (omega arith, refl, ap (λ s. filled n s (drop n (take n (replicate 32 0)))) (c .all-tasks-left .ensures) ∙ ap (filled n (full n)) (placed-none (replicate 32 0) n (omega (arith, length-replicate {A = ℕ} 32 0))), λ p _. sym (nth-next (replicate 32 0) p 0) ∙ nth-replicate 32 0 (p + 1))
 
 pub levels-again : need.levels-again
 levels-again g c =
@@ -50,6 +50,7 @@ levels-again g c =
       omega (arith, c .levels .inv .0),
       length-set order (level - 1) k ∙ c .levels .inv .1,
       ap (filled (level - 1) (set left (k - 1) false)) (sym placed) ∙ ap (λ s. filled (level - 1) s (k ∷ drop level (take n order))) (sym (put-at left k false (omega arith))) ∙ sym more ∙ c .levels .inv .2,
+      λ p past. getD-set-other order (level - 1) p k 0 (λ e. omega (arith, c .levels .inv .0)) ∙ c .levels .inv .3 p past,
     )
 
 pub returns-then-level-eq0 : need.returns-then-level-eq0
@@ -63,7 +64,7 @@ returns-then-level-eq0 g c =
     let placed = fill-none (g .T·Test .answer) (c .args .test .now) rows (c .args .range .now) (c .levels .level) (c .levels .left) (drop (c .levels .level) (take n order)) zero in
     let is = assigned-by (g .T·Test .answer) (c .args .test .now) rows (c .args .range .now) within n (c .len-rows .ensures .rows) (Some (take (length rows) order))
     (sym (c .levels .inv .2) ∙ placed ∙ ap (λ l. Some (drop l (take n order))) zero ∙ ap (λ m. Some (take m order)) (c .len-rows .ensures .rows)) in
-    record { rule = is; decides = λ h. decided (g .T·Test·met .kept) (c .args .test .now) rows (c .args .range .now) few h (Some (take (length rows) order)) is; either = one-or-other (g .T·Test .answer) (c .args .test .now) rows; own = own-bounds (g .T·Test·met .kept) (c .args .test .now) rows few; below = holds-below (g .T·Test·met .kept) (c .args .test .now) rows few }
+    record { rule = (is, λ p past. c .levels .inv .3 p (omega (arith, c .len-rows .ensures .rows))); decides = λ h. decided (g .T·Test·met .kept) (c .args .test .now) rows (c .args .range .now) few h (Some (take (length rows) order)) is; either = one-or-other (g .T·Test .answer) (c .args .test .now) rows; own = own-bounds (g .T·Test·met .kept) (c .args .test .now) rows few; below = holds-below (g .T·Test·met .kept) (c .args .test .now) rows few }
 
 pub returns-then-tried-rows : need.returns-then-tried-rows
 returns-then-tried-rows g c =

@@ -1,8 +1,9 @@
 use mathlib.Core.List.{[]}
 use mathlib.Core.Path.{_≡_}
-use Prim.Native.Nat.{_+_, _-_, _≤_}
+use Prim.Native.Nat.{ℕ, _+_, _-_, _≤_}
 use lib.ListN.{length, take, drop}
 use Rattle.table.specs.Rows.{view}
+use Rattle.bounds.specs.Orders.{taskAt}
 use Rattle.bounds.specs.Responses.{leastFrom}
 use Rattle.orders.specs.Assigner.{candidate, fill, full}
 use Rattle.orders.proofs.assign.assign.Given as given
@@ -20,7 +21,7 @@ abbrev pub μ-candidates : given.MeasureT-candidates
 abbrev pub Inv-levels : given.InvT-levels
 Inv-levels g l =
     let filled = fill (g .T·Test .answer) (l .test) (view (l .table)) (l .range) in
-    (l .level ≤ l .rows) × (length (l .order) ≡ 32) × (filled (l .level) (l .left) (drop (l .level) (take (l .rows) (l .order))) ≡ filled (l .rows) (full (l .rows)) [])
+    (l .level ≤ l .rows) × (length (l .order) ≡ 32) × (filled (l .level) (l .left) (drop (l .level) (take (l .rows) (l .order))) ≡ filled (l .rows) (full (l .rows)) []) × ((p : ℕ) → l .rows ≤ p → taskAt (l .order) p ≡ 0)
 
 abbrev pub μ-levels : given.MeasureT-levels
 μ-levels g l = l .level
