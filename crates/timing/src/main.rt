@@ -124,7 +124,7 @@ fn ask_all(test: &NamedTest, case: &mut Case, mut sum: u32) -> u32 {
     sum
 }
 
-// A list of estimates a fourth of the way from each wcet to the row's estimate, which no order passes.
+// A list of estimates a fourth of the way from each wcet to the row's estimate. Hardly any table has an order that passes it.
 fn tight_estimates(case: &Case) -> [u32; 32] {
     let mut list = case.estimates;
     let rows = case.table.rows();
