@@ -21,7 +21,7 @@ use Rattle.bounds.proofs.Descents.{Reached, reached-none, reached-more, reached
 use Rattle.bounds.proofs.Holding.{holds-not-late}
 use Rattle.bounds.proofs.Padded.{padded-at, padded-length}
 use Rattle.bounds.proofs.Wcets.{wcets-at}
-use Rattle.orders.specs.Relations.{OneOrOther, PassesOwn, HoldsBelow}
+use Rattle.orders.specs.Relations.{OneOrOther, PassesOwn, HoldsBelow, Relations}
 use Rattle.orders.proofs.Narrows.{sound-at}
 use Rattle.orders.proofs.Sets.{first-in, every}
 
@@ -42,7 +42,7 @@ module _ {T : Type 0} (answer : T → List Row → ℕ → List Bool → List �
         | inr late ↦ inr late
       ]
 
-  pub one-or-other : OneOrOther answer t rows
+  one-or-other : OneOrOther answer t rows
   one-or-other order o = (
     elim (descend order o (length rows) (omega arith)) [
       | inl d ↦ inl (d .2, subst (Bounded answer t rows order (d .2)) (sym (o .size)) (d .3 .bounded))
@@ -92,7 +92,7 @@ module _ (rows : List Row) (few : length rows ≤ 32) (order : List ℕ) (o : Or
     bound-within : (p : ℕ) → Bounded answer t rows order bounds p → (q : ℕ) → q < p → (row rows (taskAt order q) .wcet ≤ nth bounds (taskAt order q) 0) × (nth bounds (taskAt order q) 0 ≤ row rows (taskAt order q) .deadline)
     bound-within p bounded q l = let b = laws .bound t rows (taskAt order q) (first order q) (estimated rows order bounds q) _ (bounded q l) in (b .1, b .2)
 
-    pub passes-own : length bounds ≡ length rows → Bounded answer t rows order bounds (length order) → PassesBy answer t rows (padded bounds) (padded bounds) order
+    passes-own : length bounds ≡ length rows → Bounded answer t rows order bounds (length order) → PassesBy answer t rows (padded bounds) (padded bounds) order
     passes-own long bounded p l =
         let task = taskAt order p in
         let inside : p < length rows = omega (arith, o .size) in
@@ -136,10 +136,10 @@ module _ (rows : List Row) (few : length rows ≤ 32) (order : List ℕ) (o : Or
           subst (λ j. nth bounds j 0 ≤ nth e j 0) (at .2) (below-all (length rows) (omega arith) (λ q l. bounded q (omega (arith, l, o .size))) (at .0) (at .1))
 
 module _ {T : Type 0} {answer : T → List Row → ℕ → List Bool → List ℕ → Option ℕ} (laws : Laws answer) (t : T) (rows : List Row) (few : length rows ≤ 32) where
-  pub own-bounds : PassesOwn answer t rows
+  own-bounds : PassesOwn answer t rows
   own-bounds order bounds o long bounded = passes-own rows few order o bounds laws t long bounded
 
-  pub holds-below : HoldsBelow answer t rows
+  holds-below : HoldsBelow answer t rows
   holds-below order es o est passes =
       let same : (k : ℕ) → Names rows k → nth (padded es) k 0 ≡ nth es k 0 = λ k names. padded-at es k (names .0) (omega (arith, names .1, est .size)) (omega (arith, est .size)) in
       let within : (k : ℕ) → Names rows k → (row rows k .wcet ≤ nth (padded es) k 0) × (nth (padded es) k 0 ≤ row rows k .deadline) =
@@ -148,3 +148,6 @@ module _ {T : Type 0} {answer : T → List Row → ℕ → List Bool → List �
         | inl holds ↦ (holds .0, holds .1, λ k names. subst (λ x. nth (holds .0) k 0 ≤ x) (same k names) (each-below rows few order o (holds .0) laws t (padded es) within passes (holds .1) k names))
         | inr late ↦ absurd (never-late rows few order o (late .0) laws t (padded es) within passes (late .1) (late .2))
       ]
+
+  pub related : Relations answer t rows
+  related = record { either = one-or-other answer t rows; own = own-bounds; below = holds-below }

@@ -7,7 +7,7 @@ ghost use lib.ListN.{length};
 ghost use Rattle.table.specs.Rows.{view};
 ghost use Rattle.orders.specs.Assigner.{candidate, full, Assigns, Settles};
 ghost use Rattle.orders.specs.Ranges.{withinb};
-ghost use Rattle.orders.specs.Relations.{OneOrOther, PassesOwn, HoldsBelow};
+ghost use Rattle.orders.specs.Relations.{Relations};
 use crate::range::Range;
 use bounds::question::Question;
 use bounds::test::Test;
@@ -80,9 +80,7 @@ fn passes_at<T: Test>(
 pub fn assign<T: Test>(test: &T, table: &Table<Row>, range: &Range) -> Option<[usize; 32]>
     ensures rule { λ r. ⌜ Assigns answer (now (test .entry)) (view (now (table .entry))) (now (range .entry)) r ⌝ }
     ensures decides { λ r. ⌜ Settles answer (now (test .entry)) (view (now (table .entry))) (now (range .entry)) r ⌝ }
-    ensures either { λ _. ⌜ OneOrOther answer (now (test .entry)) (view (now (table .entry))) ⌝ }
-    ensures own { λ _. ⌜ PassesOwn answer (now (test .entry)) (view (now (table .entry))) ⌝ }
-    ensures below { λ _. ⌜ HoldsBelow answer (now (test .entry)) (view (now (table .entry))) ⌝ }
+    ensures relations { λ _. ⌜ Relations answer (now (test .entry)) (view (now (table .entry))) ⌝ }
 {
     let rows = table.len();
     if !is_range(table.rows(), range) {
@@ -92,7 +90,7 @@ pub fn assign<T: Test>(test: &T, table: &Table<Row>, range: &Range) -> Option<[u
     let mut order = [0; 32];
     let mut level = rows;
     'levels: loop {
-        if level == 0 {
+        if level < 1 {
             break Some(order);
         }
         let mut tried = 0;
