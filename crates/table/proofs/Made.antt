@@ -1,7 +1,6 @@
 -- A row that was made is of the numbers that were asked for.
-use Rattle.std.proofs.Common.{◌≡◌, ℕ, Ok, Err, Result, sym, subst, arith}
+use Rattle.std.proofs.Common.{◌≡◌, ℕ, Ok, subst, arith}
 use Rattle.table.specs.declared.row.Row.{Row}
-use Rattle.table.specs.declared.fault.Fault.{Fault}
 use Rattle.table.specs.Asking.{Asks}
 use Rattle.table.specs.Rows.{IsRow, Of, MadeRow}
 use Rattle.table.proofs.Asked.{asks_map}

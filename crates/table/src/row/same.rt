@@ -10,9 +10,12 @@ use super::Row;
 impl PartialEq for Row {
     ghost eq = { eq_of_both (on (λ v. v.wcet) nat_eq) (eq_of_both (on (λ v. v.period) nat_eq) (on (λ v. v.deadline) nat_eq)) };
 
-    ghost laws = { first_of (Prim.search (comparing, rules), Prim.grind (arith, Self.row.coded.inj)) };
+    ghost laws = { Prim.search (comparing, rules) };
 
-    fn eq(&self, other: &Row) -> bool {
+    fn eq(&self, other: &Row) -> bool
+        ensures value { result ≡ eq_of_both (on (λ v. v.wcet) nat_eq) (eq_of_both (on (λ v. v.period) nat_eq) (on (λ v. v.deadline) nat_eq)) self.now other.now }
+        ensures decides { Decides result (self.now ≡ other.now) }
+    {
         self.wcet == other.wcet && self.period == other.period && self.deadline == other.deadline
     }
 }

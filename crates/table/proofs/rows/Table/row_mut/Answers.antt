@@ -12,11 +12,10 @@ returns g c =
     let k : ℕ = c.args.place in
     let made : List g.row.X.Denot → t.len ≤ 32 → Table g.row.X.Denot = λ rows ok. record { rows = rows; len = t.len; ok = ok } in (
       (refl, λ w. ap (made (set t.rows k w)) (le_prop _ _)),
-      (
-        (λ d. get_or_default t.rows k _ d (search rules) ∙ sym (get_or-take t.len t.rows k d (search rules))),
-        (
-          ap (λ rows. made rows t.ok) (set-get_or t.rows k _),
-          λ w. take-set-lt t.len t.rows k w (search rules),
-        ),
-      ),
+      record {
+        follows = tt;
+        value = λ d. get_or_default t.rows k _ d (search rules) ∙ sym (get_or-take t.len t.rows k d (search rules));
+        same = ap (λ rows. made rows t.ok) (set-get_or t.rows k _);
+        rows = λ w. take-set-lt t.len t.rows k w (search rules);
+      },
     )

@@ -9,7 +9,7 @@ pub returns : goal.returns
 returns c =
     let t = c.args.self.now in
     met (search rules)
-    (with_made c.args.wcet c.args.period c.args.deadline c.in-ok-row.row
-    (λ row. (Ok tt ≡ Ok tt) × (take (t.len + 1) (set t.rows t.len c.in-ok-row.row) ≡ view t ++ row ∷ []))
-    c.in-ok-row.ensures
+    (with_made c.args.wcet c.args.period c.args.deadline c.in_ok-row.row
+    (λ row. (Ok tt ≡ Ok tt) × (take (t.len + 1) (set t.rows t.len c.in_ok-row.row) ≡ view t ++ row ∷ []))
+    c.in_ok-row.ensures
     (refl, search (rules, take_more_set)))

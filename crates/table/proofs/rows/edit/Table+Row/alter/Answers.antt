@@ -10,9 +10,9 @@ pub returns : goal.returns
 returns c =
     let t = c.args.self.now in
     let k = c.args.k in
-    let new = c.in-ok-row.row in
+    let new = c.in_ok-row.row in
     met (search rules)
     (with_made c.args.wcet c.args.period c.args.deadline new
     (λ row. (Ok tt ≡ Ok tt) × (view (with_row t (k - 1) new) ≡ put (view t) k row))
-    c.in-ok-row.ensures
-    (refl, c.row-mut.ensures.rows new ∙ sym (put_at (view t) k new (search rules))))
+    c.in_ok-row.ensures
+    (refl, c.row_mut.ensures.rows new ∙ sym (put_at (view t) k new (search rules))))

@@ -8,5 +8,5 @@ pub returns : goal.returns
 returns c =
     met (search rules) (
       refl,
-      turned (c.args.k - 1) c.args.self.now.len c.args.self.now.rows c.rotate-left.new.self (search rules) (search rules) (search (rules, places)) (λ j d h. c.rotate-left.ensures.by_index.0 j d (search (rules, places))),
+      turned (c.args.k - 1) c.args.self.now.len c.args.self.now.rows c.rotate_left.new.self (search rules) (search rules) (search (rules, places)) (λ j d h. c.rotate_left.ensures.by_index.0 j d (search (rules, places))),
     )
