@@ -1,11 +1,11 @@
 -- Going down an order: what the bounds found so far are.
-use Rattle.std.proofs.Common.{◌≡◌, ℕ, zero, suc, ◌+◌, ◌-◌, ◌<◌, ◌≤◌, Bool, true, false, ◌⊎◌, List, length, get_or, set, replicate, Some, None, Option, sym, refl, ap, ◌∙◌, subst, inl, inr, add-one, arith}
+use Rattle.std.proofs.Common.{◌≡◌, ℕ, zero, suc, ◌+◌, ◌-◌, ◌<◌, ◌≤◌, Bool, true, false, List, length, set, replicate, Some, None, Option, sym, refl, ap, ◌∙◌, subst, inl, inr, add-one, arith}
 use Rattle.std.proofs.lemmas.List.{length-set}
 use Rattle.std.proofs.lemmas.Bool.{cases_eq}
 use Rattle.table.specs.declared.row.Row.{Row}
 use Rattle.table.specs.Places.{nth, put}
-use Rattle.table.proofs.Placed.{put_at, nth_at, nth_put_same, nth_put_other}
-use Rattle.bounds.specs.Orders.{task_at, Order, first, wcets, estimated, answer_at, Bounded, LateAt, Found}
+use Rattle.table.proofs.Placed.{put_at, nth_put_same, nth_put_other}
+use Rattle.bounds.specs.Orders.{task_at, Order, first, wcets, estimated, answer_at, Bounded, Found}
 
 pub first_none : (order : List ℕ) → first order 0 ≡ replicate 32 false
 unfolding first

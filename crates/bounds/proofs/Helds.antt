@@ -1,15 +1,15 @@
 -- The loads that are held in a window stand for its load, and for no more than that of a longer one.
-use Rattle.std.proofs.Common.{◌≡◌, ℕ, ◌+◌, ◌-◌, ◌*◌, ◌/◌, ◌%◌, ◌<◌, ◌≤◌, min, Bool, true, false, cond, ◌⊎◌, List, length, get_or, sym, refl, ap, ◌∙◌, subst, inl, inr, arith}
-use Rattle.std.proofs.lemmas.Bool.{cases_Bool, cond-true, cond-false, both_ways}
+use Rattle.std.proofs.Common.{◌≡◌, ℕ, ◌+◌, ◌-◌, ◌<◌, ◌≤◌, min, Bool, true, false, cond, List, length, get_or, sym, refl, ap, ◌∙◌, inl, inr, arith}
+use Rattle.std.proofs.lemmas.Bool.{cases_Bool, cond-true, cond-false}
 use Rattle.table.specs.declared.row.Row.{Row}
 use Rattle.table.specs.Places.{nth}
 use Rattle.table.specs.Rows.{row, Names}
 use Rattle.table.proofs.Placed.{nth_next}
-use Rattle.bounds.specs.Questions.{Sound, In}
-use Rattle.bounds.specs.Loads.{work, cap_of, carried, plain, sum_to, total_of, sum_over}
+use Rattle.bounds.specs.Questions.{In}
+use Rattle.bounds.specs.Loads.{work, cap_of, carried, plain, sum_to, total_of}
 use Rattle.bounds.specs.Orders.{wcets}
-use Rattle.bounds.specs.Responses.{Choice, Greatest, greatest, carried_load, plain_load, extra, limited_load}
-use Rattle.bounds.specs.Climbs.{Lists, work_at, held_to, Picked, Held, NeverFalls}
+use Rattle.bounds.specs.Responses.{Choice, Greatest, carried_load, plain_load, extra, limited_load}
+use Rattle.bounds.specs.Climbs.{Lists, work_at, Picked, Held, NeverFalls}
 use Rattle.bounds.specs.Greatests.{greatest_is, greatest_one}
 use Rattle.bounds.specs.Sounds.{row_read}
 use Rattle.bounds.specs.Sums.{sum_same, sum_mono, sum_add}

@@ -1,11 +1,11 @@
 -- An order's bounds are settled by the order, so no late task is found exactly when it holds.
-use Rattle.std.proofs.Common.{◌≡◌, ℕ, zero, suc, ◌<◌, ◌≤◌, Bool, ◌⊎◌, List, length, Some, None, Option, sym, refl, ap, ◌∙◌, subst, inl, inr, arith}
+use Rattle.std.proofs.Common.{◌≡◌, ℕ, zero, suc, ◌<◌, ◌≤◌, Bool, List, length, Some, None, Option, sym, refl, ap, ◌∙◌, subst, inl, inr, arith}
 use Rattle.std.proofs.lemmas.Bool.{cases_eq}
 use Rattle.table.specs.declared.row.Row.{Row}
 use Rattle.table.specs.Places.{nth}
 use Rattle.bounds.specs.declared.miss.Miss.{Miss}
 use Rattle.bounds.specs.Questions.{NoMore}
-use Rattle.bounds.specs.Orders.{task_at, Order, first, padded, estimated, answer_at, answer_with, Bounded, LateAt, Found, Holds, NoneWhen, MeetsAt, FirstMiss, PassesBy}
+use Rattle.bounds.specs.Orders.{task_at, Order, first, padded, answer_at, answer_with, Bounded, LateAt, Found, Holds, NoneWhen, MeetsAt, FirstMiss, PassesBy}
 use Rattle.bounds.proofs.Descents.{estimated_same}
 use Rattle.bounds.proofs.Padded.{padded_at}
 

@@ -1,9 +1,9 @@
 -- Estimates that are handed in, gone through row by row.
-use Rattle.std.proofs.Common.{◌≡◌, ℕ, ◌+◌, ◌-◌, ◌<◌, ◌≤◌, true, false, ◌&&◌, leb, ◌⊎◌, List, length, get_or, sym, ap, ◌∙◌, inl, inr, arith}
+use Rattle.std.proofs.Common.{◌≡◌, ℕ, ◌+◌, ◌<◌, ◌≤◌, true, false, ◌&&◌, leb, List, length, get_or, ap, ◌∙◌, inl, inr, arith}
 use Rattle.std.proofs.lemmas.Bool.{cases_eq, and_parts, and_from, leb-true, le-leb, both_ways}
 use Rattle.table.specs.declared.row.Row.{Row}
 use Rattle.table.specs.Places.{nth}
-use Rattle.table.specs.Rows.{row, Names}
+use Rattle.table.specs.Rows.{row}
 use Rattle.table.proofs.Placed.{nth_next}
 use Rattle.bounds.specs.Orders.{Estimates}
 use Rattle.bounds.specs.Sounds.{row_read}

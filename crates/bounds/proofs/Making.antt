@@ -1,6 +1,5 @@
 -- A test that was made is on the processors that were asked for.
-use Rattle.std.proofs.Common.{◌≡◌, ℕ, Ok, Err, Result, sym, refl, ap, ◌∙◌, arith}
-use Rattle.table.specs.declared.fault.Fault.{Fault}
+use Rattle.std.proofs.Common.{◌≡◌, ℕ, Ok, refl, ap, ◌∙◌, arith}
 use Rattle.table.proofs.Asked.{asks_map}
 use Rattle.bounds.specs.declared.processors.Processors.{Processors}
 use Rattle.bounds.specs.Made.{MadeProcessors, MadeOn}

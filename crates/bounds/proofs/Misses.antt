@@ -1,10 +1,8 @@
 -- Going down an order to the first task that misses its estimate.
-use Rattle.std.proofs.Common.{◌≡◌, ℕ, ◌+◌, ◌-◌, ◌<◌, ◌≤◌, Bool, true, false, ◌⊎◌, List, length, get_or, set, replicate, Some, None, Option, sym, refl, ap, ◌∙◌, subst, inl, inr, arith}
+use Rattle.std.proofs.Common.{◌≡◌, ℕ, ◌+◌, ◌-◌, ◌<◌, Bool, true, false, List, length, get_or, set, replicate, Some, None, Option, sym, refl, ap, ◌∙◌, subst, inl, inr, arith}
 use Rattle.std.proofs.lemmas.Bool.{cases_eq}
 use Rattle.table.specs.declared.row.Row.{Row}
-use Rattle.table.specs.Places.{nth, put}
 use Rattle.table.proofs.Placed.{put_at, nth_at}
-use Rattle.bounds.specs.declared.miss.Miss.{Miss}
 use Rattle.bounds.specs.Questions.{NoMore}
 use Rattle.bounds.specs.Orders.{task_at, Order, first, padded, answer_with, MeetsAt, FirstMiss}
 use Rattle.bounds.proofs.Descents.{first_none, first_more}

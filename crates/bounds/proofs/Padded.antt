@@ -1,8 +1,8 @@
 -- A list by row, filled up with 0.
-use Rattle.std.proofs.Common.{◌≡◌, ℕ, ◌+◌, ◌-◌, ◌<◌, ◌≤◌, ◌⊎◌, List, ◌++◌, length, get_or, replicate, sym, refl, ap, ◌∙◌, inl, inr, arith}
+use Rattle.std.proofs.Common.{◌≡◌, ℕ, ◌+◌, ◌-◌, ◌<◌, ◌≤◌, List, ◌++◌, length, get_or, replicate, sym, refl, ◌∙◌, inl, inr, arith}
 use Rattle.std.proofs.lemmas.List.{ext_get_or, get_or-take, get_or_append_left, get_or-append_right, get_or-replicate, length-append, length-replicate, length-take-le}
 use Rattle.std.proofs.lemmas.Bool.{cases_lt}
-use Rattle.table.proofs.Placed.{nth_at, nth_next}
+use Rattle.table.proofs.Placed.{nth_at}
 use Rattle.table.specs.Places.{nth}
 use Rattle.bounds.specs.Orders.{padded}
 use Rattle.bounds.proofs.Writes.{Written}

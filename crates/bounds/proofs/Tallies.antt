@@ -1,11 +1,10 @@
 -- The tally of the loads, load by load.
-use Rattle.std.proofs.Common.{◌≡◌, ℕ, zero, suc, ◌+◌, ◌-◌, ◌*◌, ◌<◌, ◌≤◌, min, Bool, true, false, cond, ltb, ◌⊎◌, List, get_or, sym, refl, ap, ◌∙◌, inl, inr, mul-one, arith}
+use Rattle.std.proofs.Common.{◌≡◌, ℕ, ◌+◌, ◌*◌, ◌<◌, ◌≤◌, min, cond, ltb, List, get_or, sym, ap, ◌∙◌, inl, inr, mul-one, arith}
 use Rattle.std.proofs.lemmas.Bool.{cases_eq, cases_Bool, cond-true, cond-false, lt-ltb, le-ltb, ltb-false}
 use Rattle.table.specs.Places.{nth}
 use Rattle.table.proofs.Placed.{nth_next}
 use Rattle.bounds.specs.declared.tally.Tally.{Tally}
-use Rattle.bounds.specs.Loads.{sum_to}
-use Rattle.bounds.specs.Climbs.{held_to, Tallied}
+use Rattle.bounds.specs.Climbs.{Tallied}
 use Rattle.bounds.specs.Sums.{sum_none, sum_more, sum_le}
 
 pub tallied_none : (held : List ℕ) (y least : ℕ) → Tallied held 0 y (record { sum = 0; over = 0; least = least; rest = 0 })

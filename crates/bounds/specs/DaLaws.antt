@@ -1,11 +1,11 @@
 -- The deadline analysis keeps the laws.
-use Rattle.std.specs.Prelude.{◌≡◌, ℕ, ◌+◌, ◌/◌, ◌≤◌, Bool, cond, ◌⊎◌, List, Some, None, Option}
+use Rattle.std.specs.Prelude.{◌≡◌, ℕ, ◌+◌, ◌/◌, Bool, List, Some, None}
 use Rattle.std.proofs.Common.{sym, ap, ◌∙◌, inl, inr, arith}
 use Rattle.std.proofs.lemmas.Bool.{cases_Bool, cond-true, cond-false}
 use Rattle.table.specs.declared.row.Row.{Row}
 use Rattle.table.specs.Rows.{row}
 use Rattle.bounds.specs.declared.da.Da.{Da}
-use Rattle.bounds.specs.Questions.{Sound, NoMore, Laws, capped, soundb}
+use Rattle.bounds.specs.Questions.{Sound, Laws, capped, soundb}
 use Rattle.bounds.specs.Loads.{da, deadline_load}
 use Rattle.bounds.specs.Compared.{no_more_same, capped_mono, capped_some}
 use Rattle.bounds.specs.Sounds.{sound_from, sound_test}

@@ -1,11 +1,8 @@
 -- A test by name keeps the laws, since each of the tests does.
-use Rattle.std.specs.Prelude.{◌≡◌, ℕ, Bool, ◌⊎◌, List, Ok, Err, codes, Option, refl}
-use Rattle.std.proofs.Common.{ap, ◌∙◌, inl, inr, arith}
+use Rattle.std.specs.Prelude.{◌≡◌, ℕ, Bool, ◌⊎◌, List, Ok, codes, Option, refl}
+use Rattle.std.proofs.Common.{ap, ◌∙◌, arith}
 use Rattle.table.specs.declared.row.Row.{Row}
 use Rattle.bounds.specs.declared.processors.Processors.{Processors}
-use Rattle.bounds.specs.declared.da.Da.{Da}
-use Rattle.bounds.specs.declared.rta.Rta.{Rta}
-use Rattle.bounds.specs.declared.lc.Lc.{Lc}
 use Rattle.bounds.specs.declared.named.NamedTest.{NamedTest}
 use Rattle.bounds.specs.declared.named.NamedTest.TheVariants.{ByDeadline, ByResponse, ByLimited}
 use Rattle.bounds.specs.Questions.{Laws}

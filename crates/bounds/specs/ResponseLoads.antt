@@ -1,6 +1,6 @@
 -- The loads of the response-time analyses grow with the tasks above, with their estimates and with the window.
-use Rattle.std.specs.Prelude.{◌≡◌, ℕ, zero, suc, ◌+◌, ◌-◌, ◌<◌, ◌≤◌, max, Bool, true, false, cond, ◌&&◌, ◌⊎◌, List, length, Some, None, nat_lt, refl}
-use Rattle.std.proofs.Common.{sym, ap, ◌∙◌, subst, inl, inr, arith}
+use Rattle.std.specs.Prelude.{ℕ, zero, suc, ◌+◌, ◌-◌, ◌≤◌, Bool, false, ◌&&◌, List, length, None, nat_lt}
+use Rattle.std.proofs.Common.{sym, subst, inl, inr, arith}
 use Rattle.std.proofs.lemmas.Bool.{cases_Bool, cond-true, cond-false, and_parts, and_from}
 use Rattle.table.specs.declared.row.Row.{Row}
 use Rattle.table.specs.Places.{nth}
@@ -8,7 +8,7 @@ use Rattle.table.specs.Rows.{row, Names}
 use Rattle.bounds.specs.declared.rta.Rta.{Rta}
 use Rattle.bounds.specs.declared.lc.Lc.{Lc}
 use Rattle.bounds.specs.Questions.{In, Laws, soundb}
-use Rattle.bounds.specs.Loads.{work, carried, plain, cap_of, sum_over}
+use Rattle.bounds.specs.Loads.{carried}
 use Rattle.bounds.specs.Responses.{carried_load, rta, greatest, plain_load, extra, limited_load, lc, Least, RtaMeaning, LcMeaning}
 use Rattle.bounds.specs.Leasts.{fit_laws, fit_least}
 use Rattle.bounds.specs.Greatests.{greatest_is}

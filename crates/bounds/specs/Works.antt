@@ -1,12 +1,12 @@
 -- The work of a task in a window, and the loads made of it.
-use Rattle.std.specs.Prelude.{◌≡◌, ℕ, ◌+◌, ◌-◌, ◌*◌, ◌/◌, ◌%◌, ◌<◌, ◌≤◌, min, Bool, ◌⊎◌, List, length}
+use Rattle.std.specs.Prelude.{◌≡◌, ℕ, ◌+◌, ◌*◌, ◌/◌, ◌<◌, ◌≤◌, Bool, List, length}
 use Rattle.std.proofs.Common.{sym, ap, ◌∙◌, inl, inr, mul-le-mul_left, mul-le-mul_right, div-mul-le_self, add-mul, one-mul, arith}
 use Rattle.std.proofs.lemmas.Nat.{div-add-mod', le-div}
 use Rattle.std.proofs.lemmas.Bool.{cases_lt}
 use Rattle.table.specs.declared.row.Row.{Row}
 use Rattle.table.specs.Rows.{row}
 use Rattle.bounds.specs.Questions.{In}
-use Rattle.bounds.specs.Loads.{work, carried, cap_of, sum_over, deadline_part, deadline_load}
+use Rattle.bounds.specs.Loads.{work, carried, sum_over, deadline_part, deadline_load}
 use Rattle.bounds.specs.Sums.{over_mono, over_le}
 
 pub whole_le : (q t c : ℕ) → c ≤ t → q / t * c ≤ q

@@ -19,7 +19,7 @@ fn find_bounds<T: Test>(
     bounds: &mut [u32],
 ) -> Option<usize>
     requires { (Order (length (view table.now)) order.now) × (length bounds.old ≡ length (view table.now)) }
-    ensures { Found answer test.now (view table.now) order.now result bounds.new }
+    ensures { Found T.answer test.now (view table.now) order.now result bounds.new }
 {
     let mut above = [false; 32];
     let mut estimates = wcets_of(table.rows());
@@ -50,7 +50,7 @@ pub fn analyse<T: Test>(
     order: &[usize],
     bounds: &mut [u32],
 ) -> Result<Option<usize>, Fault>
-    ensures { Analyses answer test.now (view table.now) order.now bounds.old result bounds.new }
+    ensures { Analyses T.answer test.now (view table.now) order.now bounds.old result bounds.new }
 {
     let rows = table.len();
     if rows == 0 {

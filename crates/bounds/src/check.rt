@@ -59,7 +59,7 @@ fn first_miss<T: Test>(
 ) -> Option<Miss>
     requires orders { Order (length (view table.now)) order.now }
     requires size { length estimates.now ≡ length (view table.now) }
-    ensures { FirstMiss answer test.now (view table.now) order.now estimates.now result }
+    ensures { FirstMiss T.answer test.now (view table.now) order.now estimates.now result }
 {
     let all = padded(estimates);
     let mut above = [false; 32];
@@ -88,7 +88,7 @@ pub fn check<T: Test>(
     order: &[usize],
     estimates: &[u32],
 ) -> Result<Option<Miss>, Fault>
-    ensures { Checks answer test.now (view table.now) order.now estimates.now result }
+    ensures { Checks T.answer test.now (view table.now) order.now estimates.now result }
 {
     let rows = table.len();
     if rows == 0 {

@@ -1,3 +1,5 @@
+#![tactic(auto)]
+
 pub mod analyse;
 mod carry;
 pub mod check;

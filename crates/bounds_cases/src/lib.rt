@@ -1,4 +1,6 @@
 // Tests of the question, the tests, analyse and check.
+#![tactic(auto)]
+
 #[cfg(test)]
 mod tests {
     use bounds::analyse::analyse;

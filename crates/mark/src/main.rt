@@ -1,5 +1,7 @@
 // Analyses an order of the worked table on 2 processors under each test, checks an answer, says whether
 // the range of all C to D is open, and prints it all.
+#![tactic(auto)]
+
 use anyhow::anyhow;
 use bounds::analyse::analyse;
 use bounds::check::check;

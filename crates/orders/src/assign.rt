@@ -52,7 +52,7 @@ fn passes_at<T: Test>(
     k: usize,
 ) -> bool
     requires { (1 ≤ k) × (k ≤ 32) }
-    ensures { result ≡ candidate answer test.now (view table.now) range.now left.now k }
+    ensures { result ≡ candidate T.answer test.now (view table.now) range.now left.now k }
 {
     if !left[k - 1] {
         return false;
@@ -75,10 +75,10 @@ fn passes_at<T: Test>(
 /// An order that passes the range, the highest task first, if there is one. Levels are filled from
 /// the lowest up, each by the lowest-numbered task left that passes there.
 pub fn assign<T: Test>(test: &T, table: &Table<Row>, range: &Range) -> Option<[usize; 32]>
-    ensures rule { Assigns answer test.now (view table.now) range.now result }
-    ensures decides { Settles answer test.now (view table.now) range.now result }
-    ensures lowest { FillsLowest answer test.now (view table.now) range.now result }
-    ensures relations { Relations answer test.now (view table.now) }
+    ensures rule { Assigns T.answer test.now (view table.now) range.now result }
+    ensures decides { Settles T.answer test.now (view table.now) range.now result }
+    ensures lowest { FillsLowest T.answer test.now (view table.now) range.now result }
+    ensures relations { Relations T.answer test.now (view table.now) }
 {
     let rows = table.len();
     if !is_range(table.rows(), range) {

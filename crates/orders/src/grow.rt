@@ -14,7 +14,7 @@ use table::rows::Table;
 // Whether a range is closed.
 fn is_closed<T: Test>(test: &T, table: &Table<Row>, range: &Range) -> bool
     requires { Within (view table.now) range.now }
-    ensures { Decides result (Closed answer test.now (view table.now) range.now) }
+    ensures { Decides result (Closed T.answer test.now (view table.now) range.now) }
 {
     assign(test, table, range).is_none()
 }
@@ -54,8 +54,8 @@ fn moved(rows: &[Row], range: &Range, end: End, place: usize, by: u32) -> Range
 fn reach<T: Test>(test: &T, table: &Table<Row>, range: &Range, end: End, place: usize) -> u32
     requires place { place < length (view table.now) }
     requires within { Within (view table.now) range.now }
-    requires shut { Closed answer test.now (view table.now) range.now }
-    ensures { Reaches answer test.now (view table.now) end range.now (place + 1) result }
+    requires shut { Closed T.answer test.now (view table.now) range.now }
+    ensures { Reaches T.answer test.now (view table.now) end range.now (place + 1) result }
 {
     let rows = table.rows();
     let mut closed = 0;
@@ -76,10 +76,10 @@ fn reach<T: Test>(test: &T, table: &Table<Row>, range: &Range, end: End, place: 
 fn grow_end<T: Test>(test: &T, table: &Table<Row>, range: &Range, end: End, place: usize) -> Range
     requires place { place < length (view table.now) }
     requires within { Within (view table.now) range.now }
-    requires shut { Closed answer test.now (view table.now) range.now }
-    ensures grown { EndGrown answer test.now (view table.now) end range.now (place + 1) result }
+    requires shut { Closed T.answer test.now (view table.now) range.now }
+    ensures grown { EndGrown T.answer test.now (view table.now) end range.now (place + 1) result }
     ensures within { Within (view table.now) result }
-    ensures shut { Closed answer test.now (view table.now) result }
+    ensures shut { Closed T.answer test.now (view table.now) result }
 {
     let by = reach(test, table, range, end, place);
     moved(table.rows(), range, end, place, by)
@@ -89,10 +89,10 @@ fn grow_end<T: Test>(test: &T, table: &Table<Row>, range: &Range, end: End, plac
 /// wcet, that leaves the range closed, and then the high up to the greatest, at most the deadline.
 /// What is open, or no range of the table, is given back as it is.
 pub fn grow<T: Test>(test: &T, table: &Table<Row>, range: &Range) -> Range
-    ensures rule { Grown answer test.now (view table.now) range.now result }
-    ensures back { GivenBack answer test.now (view table.now) range.now result }
-    ensures maximal { GrownMaximal answer test.now (view table.now) range.now result }
-    ensures narrowing { Narrowing answer test.now (view table.now) }
+    ensures rule { Grown T.answer test.now (view table.now) range.now result }
+    ensures back { GivenBack T.answer test.now (view table.now) range.now result }
+    ensures maximal { GrownMaximal T.answer test.now (view table.now) range.now result }
+    ensures narrowing { Narrowing T.answer test.now (view table.now) }
 {
     let mut grown = *range;
     if !is_range(table.rows(), range) {

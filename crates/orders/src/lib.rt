@@ -1,3 +1,5 @@
+#![tactic(auto)]
+
 pub mod assign;
 mod end;
 pub mod grow;

@@ -1,5 +1,7 @@
 // Tests of the assigner and of growth. The expected values were found by trying every order of a
 // table and every value of each end of a range.
+#![tactic(auto)]
+
 #[cfg(test)]
 mod tests {
     use bounds::named::NamedTest;

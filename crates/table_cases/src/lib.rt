@@ -1,4 +1,6 @@
 // Tests of the table layer.
+#![tactic(auto)]
+
 #[cfg(test)]
 mod tests {
     use std::process::Abort;

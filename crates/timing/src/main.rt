@@ -1,6 +1,8 @@
 // Asks each test questions on pseudo-random tables, and grows ranges of such tables. Prints a checksum of the
 // answers and of the grown ranges, and the times to standard error.
 // An argument says how many tables of each kind there are.
+#![tactic(auto)]
+
 use anyhow::anyhow;
 use bounds::named::NamedTest;
 use bounds::question::Question;

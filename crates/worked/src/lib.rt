@@ -1,4 +1,6 @@
 // The worked examples, under one statement.
+#![tactic(auto)]
+
 ghost use Rattle.std.specs.Prelude.{◌≡◌, Ok};
 ghost use Rattle.table.specs.declared.rows.Table.{Table as Rows};
 ghost use Rattle.table.specs.declared.row.Row.{Row as OneRow};

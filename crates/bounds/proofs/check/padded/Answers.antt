@@ -1,4 +1,4 @@
-use Rattle.std.proofs.Common.{length, get_or, sym, arith}
+use Rattle.std.proofs.Common.{get_or, sym, arith}
 use Rattle.table.proofs.Placed.{nth_next}
 use Rattle.bounds.proofs.Padded.{padded_all}
 use Rattle.bounds.proofs.Writes.{written_none, written_more}

@@ -14,8 +14,8 @@ works-plain-requires c = record {
   within = subst (Within c.args.rows.now) (sym c.requires.cost) (wcets_within c.args.rows.now c.requires.sound.few);
 }
 
-pub overflow-sub-cap : goal.overflow-sub-cap
-overflow-sub-cap c =
+pub overflow_sub-cap : goal.overflow_sub-cap
+overflow_sub-cap c =
     let own = row_named c.args.rows.now c.args.task c.index-rows-task.result c.requires.sound.names c.index-rows-task.is in
     omega (arith, c.wcet.ensures, ap (λ (r : Row). r.wcet) own, c.requires.low)
 
@@ -40,10 +40,10 @@ returns-in-AtMost c =
     let wcet : c.wcet.result ≡ (row rows i).wcet = c.wcet.ensures ∙ ap (λ (r : Row). r.wcet) (sym own) in
     let holds = subst (λ x. Held (load_of x rows i s e) (row rows i) (length rows) l c.mixed.result) (sym c.in-AtMost.is)
     (held_limited rows i s e sound.few (λ k h. (sound.low k h, sound.high k h)) c.in-AtMost.limit l c.requires.low c.requires.short
-    c.works-carried.result c.works-plain.result c.extras-of-extras.result c.picks-chosen.result c.mixed.result
+    c.works-carried.result c.works-plain.result c.extras_of-extras.result c.picks-chosen.result c.mixed.result
     c.works-carried.ensures
     (subst (λ w. Lists (length rows) (work_at rows s w l) c.works-plain.result) c.requires.cost c.works-plain.ensures)
-    (subst (λ w. Lists (length rows) (λ k. min (nth c.works-carried.result k 0) (l - w + 1) - min (nth c.works-plain.result k 0) (l - w + 1)) c.extras-of-extras.result) wcet c.extras-of-extras.ensures)
+    (subst (λ w. Lists (length rows) (λ k. min (nth c.works-carried.result k 0) (l - w + 1) - min (nth c.works-plain.result k 0) (l - w + 1)) c.extras_of-extras.result) wcet c.extras_of-extras.ensures)
     c.picks-chosen.ensures
     c.mixed.ensures) in
     record { held = holds; rises = never_falls (load_of c.args.carry rows i s e) (row rows i) (length rows) l c.mixed.result holds }

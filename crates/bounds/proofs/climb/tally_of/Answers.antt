@@ -1,4 +1,4 @@
-use Rattle.std.proofs.Common.{◌≡◌, ◌+◌, ◌*◌, ◌≤◌, ◌∙◌, subst, arith}
+use Rattle.std.proofs.Common.{◌≡◌, ◌+◌, ◌∙◌, subst, arith}
 use Rattle.bounds.specs.declared.tally.Tally.{Tally}
 use Rattle.bounds.specs.Climbs.{Tallied}
 use Rattle.bounds.proofs.Tallies.{tallied_none, tallied_big, tallied_small, tallied_as, tally_limits}
@@ -8,17 +8,17 @@ use Rattle.bounds.proofs.climb.tally_of.Goals.{then-load-cap, else-load-cap}
 pub loop-place-init : goal.loop-place-init
 loop-place-init c = (tallied_none c.args.held.now c.args.cap 2000000, omega arith)
 
-pub overflow-add-sum : goal.overflow-add-sum
-overflow-add-sum c = omega (arith, tally_limits c.args.held.now c.loop-place.place c.args.cap _ c.loop-place.invariant.0 c.requires.short, c.requires.few, c.requires.short)
+pub overflow_add-sum : goal.overflow_add-sum
+overflow_add-sum c = omega (arith, tally_limits c.args.held.now c.loop-place.place c.args.cap _ c.loop-place.invariant.0 c.requires.short, c.requires.few, c.requires.short)
 
-pub overflow-add-over : goal.overflow-add-over
-overflow-add-over c = omega (arith, tally_limits c.args.held.now c.loop-place.place c.args.cap _ c.loop-place.invariant.0 c.requires.short, c.requires.few)
+pub overflow_add-over : goal.overflow_add-over
+overflow_add-over c = omega (arith, tally_limits c.args.held.now c.loop-place.place c.args.cap _ c.loop-place.invariant.0 c.requires.short, c.requires.few)
 
-pub overflow-add-sum-else-load-cap : goal.overflow-add-sum-else-load-cap
-overflow-add-sum-else-load-cap c = omega (arith, tally_limits c.args.held.now c.loop-place.place c.args.cap _ c.loop-place.invariant.0 c.requires.short, c.requires.few, c.requires.short)
+pub overflow_add-sum-else-load-cap : goal.overflow_add-sum-else-load-cap
+overflow_add-sum-else-load-cap c = omega (arith, tally_limits c.args.held.now c.loop-place.place c.args.cap _ c.loop-place.invariant.0 c.requires.short, c.requires.few, c.requires.short)
 
-pub overflow-add-rest : goal.overflow-add-rest
-overflow-add-rest c = omega (arith, tally_limits c.args.held.now c.loop-place.place c.args.cap _ c.loop-place.invariant.0 c.requires.short, c.requires.few, c.requires.short)
+pub overflow_add-rest : goal.overflow_add-rest
+overflow_add-rest c = omega (arith, tally_limits c.args.held.now c.loop-place.place c.args.cap _ c.loop-place.invariant.0 c.requires.short, c.requires.few, c.requires.short)
 
 pub loop-place-preserved : goal.loop-place-preserved
 loop-place-preserved c =

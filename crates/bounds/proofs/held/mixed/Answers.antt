@@ -1,4 +1,4 @@
-use Rattle.std.proofs.Common.{◌+◌, false, cond, get_or, sym, ap, ◌∙◌, arith}
+use Rattle.std.proofs.Common.{◌+◌, false, sym, ◌∙◌, arith}
 use Rattle.std.proofs.lemmas.Bool.{cond-true, cond-false}
 use Rattle.table.specs.Places.{nth}
 use Rattle.table.proofs.Placed.{nth_next}

@@ -1,6 +1,6 @@
-use Rattle.std.proofs.Common.{◌≡◌, arith}
+use Rattle.std.proofs.Common.{arith}
 use Rattle.std.proofs.lemmas.Bool.{false≢true}
-use Rattle.bounds.proofs.Listed.{listed_none, listed_more, listed_all, repeated}
+use Rattle.bounds.proofs.Listed.{listed_none, listed_more, repeated}
 use Rattle.bounds.proofs.order.is_order.Goals as goal
 
 pub loop-k-init : goal.loop-k-init

@@ -17,14 +17,14 @@ pub candidates-preserved : goal.candidates-preserved
 candidates-preserved g c =
     let p = candidate g.T.Test.answer c.args.test.now (view c.args.table.now) c.args.range.now c.levels.left in
     let inv = c.candidates.invariant in
-    (omega arith, sym (least_later p (c.candidates.tried + 1) c.len-rows.result (omega (arith, inv.0, c.if-tried-rows.false)) (sym c.if-passes-at.ensures)) ∙ inv.1)
+    (omega arith, sym (least_later p (c.candidates.tried + 1) c.len-rows.result (omega (arith, inv.0, c.if-tried-rows.false)) (sym c.if-passes_at.ensures)) ∙ inv.1)
 
 pub levels-init : goal.levels-init
 levels-init g c =
     let n = c.len-rows.result in
     let filled = fill g.T.Test.answer c.args.test.now (view c.args.table.now) c.args.range.now in
     let few : n ≤ 32 = omega (arith, c.len-rows.ensures.len, c.args.table.now.ok) in
-    (omega arith, refl, ap (λ s. filled n s (drop n (take n (replicate 32 0)))) c.all-tasks-left.ensures ∙ ap (filled n (full n)) (placed_none (replicate 32 0) n (omega (arith, length-replicate {A = ℕ} 32 0))), λ p _. sym (nth_next (replicate 32 0) p 0) ∙ nth_replicate 32 0 (p + 1))
+    (omega arith, refl, ap (λ s. filled n s (drop n (take n (replicate 32 0)))) c.all_tasks-left.ensures ∙ ap (filled n (full n)) (placed_none (replicate 32 0) n (omega (arith, length-replicate {A = ℕ} 32 0))), λ p _. sym (nth_next (replicate 32 0) p 0) ∙ nth_replicate 32 0 (p + 1))
 
 pub levels-preserved : goal.levels-preserved
 levels-preserved g c =
@@ -37,7 +37,7 @@ levels-preserved g c =
     let p = candidate g.T.Test.answer c.args.test.now rows c.args.range.now left in
     let filled = fill g.T.Test.answer c.args.test.now rows c.args.range.now in
     let few : n ≤ 32 = omega (arith, c.len-rows.ensures.len, c.args.table.now.ok) in
-    let found : least_from p 1 (length rows) ≡ Some k = ap (least_from p 1) (sym c.len-rows.ensures.rows) ∙ sym c.candidates.invariant.1 ∙ least_here p k n (omega (arith, c.candidates.invariant.0, c.if-tried-rows.false)) (sym c.if-passes-at.ensures) in
+    let found : least_from p 1 (length rows) ≡ Some k = ap (least_from p 1) (sym c.len-rows.ensures.rows) ∙ sym c.candidates.invariant.1 ∙ least_here p k n (omega (arith, c.candidates.invariant.0, c.if-tried-rows.false)) (sym c.if-passes_at.ensures) in
     let pos = c.if-level-lt1.false in
     let more = fill_more g.T.Test.answer c.args.test.now rows c.args.range.now level left (drop level (take n order)) k (omega arith) found in
     let placed = placed_more order n level k (omega arith) c.levels.invariant.0 (omega (arith, c.levels.invariant.1)) in (
@@ -53,7 +53,7 @@ returns-then-level-lt1 g c =
     let n = c.len-rows.result in
     let order = c.levels.order in
     let few = few_rows c.args.table.now in
-    let within = ap (λ xs. withinb xs c.args.range.now) (sym c.rows.ensures.value) ∙ sym c.if-not-is-range.ensures in
+    let within = ap (λ xs. withinb xs c.args.range.now) (sym c.rows.ensures.value) ∙ sym c.if-not-is_range.ensures in
     let zero : c.levels.level ≡ 0 = omega (arith, c.if-level-lt1.true) in
     let placed = fill_none g.T.Test.answer c.args.test.now rows c.args.range.now c.levels.level c.levels.left (drop c.levels.level (take n order)) zero in
     let is = assigned_by g.T.Test.answer c.args.test.now rows c.args.range.now within n c.len-rows.ensures.rows (Some (take (length rows) order))
@@ -66,16 +66,16 @@ returns-then-tried-rows g c =
     let n = c.len-rows.result in
     let p = candidate g.T.Test.answer c.args.test.now rows c.args.range.now c.levels.left in
     let few = few_rows c.args.table.now in
-    let within = ap (λ xs. withinb xs c.args.range.now) (sym c.rows.ensures.value) ∙ sym c.if-not-is-range.ensures in
+    let within = ap (λ xs. withinb xs c.args.range.now) (sym c.rows.ensures.value) ∙ sym c.if-not-is_range.ensures in
     let nobody : least_from p 1 (length rows) ≡ None = ap (least_from p 1) (sym c.len-rows.ensures.rows) ∙ sym c.candidates.invariant.1 ∙ least_end p (c.candidates.tried + 1) n (omega (arith, c.if-tried-rows.true)) in
     let pos = c.if-level-lt1.false in
     let failed = fill_fails g.T.Test.answer c.args.test.now rows c.args.range.now c.levels.level c.levels.left (drop c.levels.level (take n c.levels.order)) (omega arith) nobody in
     let is = assigned_by g.T.Test.answer c.args.test.now rows c.args.range.now within n c.len-rows.ensures.rows None (sym c.levels.invariant.2 ∙ failed) in
     record { rule = is; decides = λ h. decided g.met.T.Test.kept c.args.test.now rows c.args.range.now few h None is; lowest = tt; relations = related g.met.T.Test.kept c.args.test.now rows few }
 
-pub returns-then-not-is-range : goal.returns-then-not-is-range
-returns-then-not-is-range g c =
+pub returns-then-not-is_range : goal.returns-then-not-is_range
+returns-then-not-is_range g c =
     let rows = view c.args.table.now in
     let few = few_rows c.args.table.now in
-    let is = assigned_not g.T.Test.answer c.args.test.now rows c.args.range.now (ap (λ xs. withinb xs c.args.range.now) (sym c.rows.ensures.value) ∙ sym c.if-not-is-range.ensures) in
+    let is = assigned_not g.T.Test.answer c.args.test.now rows c.args.range.now (ap (λ xs. withinb xs c.args.range.now) (sym c.rows.ensures.value) ∙ sym c.if-not-is_range.ensures) in
     record { rule = is; decides = λ h. decided g.met.T.Test.kept c.args.test.now rows c.args.range.now few h None is; lowest = tt; relations = related g.met.T.Test.kept c.args.test.now rows few }

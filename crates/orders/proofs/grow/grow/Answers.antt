@@ -8,11 +8,11 @@ use Rattle.orders.proofs.Narrows.{narrowing}
 use Rattle.orders.proofs.Withins.{within_from, within_test, few_rows}
 use Rattle.orders.proofs.grow.grow.Goals as goal
 
-pub returns-then-not-is-range : goal.returns-then-not-is-range
-returns-then-not-is-range g c =
+pub returns-then-not-is_range : goal.returns-then-not-is_range
+returns-then-not-is_range g c =
     let rows = view c.args.table.now in
     let range = c.args.range.now in
-    let outside : Within rows range → ⊥ = λ within. false≢true (c.if-not-is-range.ensures ∙ ap (λ xs. withinb xs range) c.rows.ensures.value ∙ within_test rows range within) in
+    let outside : Within rows range → ⊥ = λ within. false≢true (c.if-not-is_range.ensures ∙ ap (λ xs. withinb xs range) c.rows.ensures.value ∙ within_test rows range within) in
     record {
       rule = λ within closed. absurd (outside within);
       back = (λ o. refl, λ o. refl);
@@ -20,13 +20,13 @@ returns-then-not-is-range g c =
       narrowing = narrowing g.met.T.Test.kept c.args.test.now rows (few_rows c.args.table.now);
     }
 
-pub is-closed-requires : goal.is-closed-requires
-is-closed-requires g c = within_from (view c.args.table.now) c.args.range.now (sym (c.if-not-is-range.ensures ∙ ap (λ xs. withinb xs c.args.range.now) c.rows.ensures.value))
+pub is_closed-requires : goal.is_closed-requires
+is_closed-requires g c = within_from (view c.args.table.now) c.args.range.now (sym (c.if-not-is_range.ensures ∙ ap (λ xs. withinb xs c.args.range.now) c.rows.ensures.value))
 
-pub returns-then-not-is-closed : goal.returns-then-not-is-closed
-returns-then-not-is-closed g c =
+pub returns-then-not-is_closed : goal.returns-then-not-is_closed
+returns-then-not-is_closed g c =
     let rows = view c.args.table.now in
-    let opened : Closed g.T.Test.answer c.args.test.now rows c.args.range.now → ⊥ = λ closed. false≢true (c.if-not-is-closed.ensures.1 closed) in
+    let opened : Closed g.T.Test.answer c.args.test.now rows c.args.range.now → ⊥ = λ closed. false≢true (c.if-not-is_closed.ensures.1 closed) in
     record {
       rule = λ within closed. absurd (opened closed);
       back = (λ o. refl, λ o. refl);
@@ -37,15 +37,15 @@ returns-then-not-is-closed g c =
 pub loop-place-init : goal.loop-place-init
 loop-place-init g c = (
   start,
-  within_from (view c.args.table.now) c.args.range.now (sym (c.if-not-is-range.ensures ∙ ap (λ xs. withinb xs c.args.range.now) c.rows.ensures.value)),
-  c.if-not-is-closed.ensures.0 refl,
+  within_from (view c.args.table.now) c.args.range.now (sym (c.if-not-is_range.ensures ∙ ap (λ xs. withinb xs c.args.range.now) c.rows.ensures.value)),
+  c.if-not-is_closed.ensures.0 refl,
 )
 
 pub loop-place-preserved : goal.loop-place-preserved
 loop-place-preserved g c =
     let rows = view c.args.table.now in
-    let more = grown_next g.met.T.Test.kept c.args.test.now rows (few_rows c.args.table.now) c.args.range.now c.loop-place.place c.loop-place.grown c.grow-end-lower.result c.grow-end-grown.result in
-    (more c.loop-place.invariant.0 c.grow-end-lower.ensures.grown c.grow-end-grown.ensures.grown, c.grow-end-grown.ensures.within, c.grow-end-grown.ensures.shut)
+    let more = grown_next g.met.T.Test.kept c.args.test.now rows (few_rows c.args.table.now) c.args.range.now c.loop-place.place c.loop-place.grown c.grow_end-lower.result c.grow_end-grown.result in
+    (more c.loop-place.invariant.0 c.grow_end-lower.ensures.grown c.grow_end-grown.ensures.grown, c.grow_end-grown.ensures.within, c.grow_end-grown.ensures.shut)
 
 pub returns : goal.returns
 returns g c =
@@ -53,8 +53,8 @@ returns g c =
     let range = c.args.range.now in
     let few = few_rows c.args.table.now in
     let end : c.loop-place.place ≡ length rows = omega (arith, c.len-place-end.ensures.rows) in
-    let closed = c.if-not-is-closed.ensures.0 refl in
-    let inside = within_from rows range (sym (c.if-not-is-range.ensures ∙ ap (λ xs. withinb xs range) c.rows.ensures.value)) in
+    let closed = c.if-not-is_closed.ensures.0 refl in
+    let inside = within_from rows range (sym (c.if-not-is_range.ensures ∙ ap (λ xs. withinb xs range) c.rows.ensures.value)) in
     let grown : GrownTo g.T.Test.answer c.args.test.now rows range (length rows) c.loop-place.grown = subst (λ n. GrownTo g.T.Test.answer c.args.test.now rows range n c.loop-place.grown) end c.loop-place.invariant.0 in
     record {
       rule = λ within shut. grown;

@@ -7,15 +7,15 @@ use Rattle.orders.specs.declared.end.End.TheVariants.{Low, High}
 use Rattle.orders.specs.Growth.{moved, span}
 use Rattle.orders.proofs.grow.moved.Goals as goal
 
-pub overflow-sub-lows : goal.overflow-sub-lows
-overflow-sub-lows c =
+pub overflow_sub-lows : goal.overflow_sub-lows
+overflow_sub-lows c =
     let r = c.args.range.now in
     let k = c.args.place + 1 in
     let short : c.args.by ≤ span Low c.args.rows.now r k = subst (λ end. c.args.by ≤ span end c.args.rows.now r k) c.in-Low.is c.requires.short in
     omega (arith, short, nth_next r.lows c.args.place 0)
 
-pub overflow-add-highs : goal.overflow-add-highs
-overflow-add-highs c =
+pub overflow_add-highs : goal.overflow_add-highs
+overflow_add-highs c =
     let rows = c.args.rows.now in
     let r = c.args.range.now in
     let k = c.args.place + 1 in

@@ -21,8 +21,8 @@ loop-closed-init g c =
       λ b far near. absurd (omega (arith, is, far, near)),
     )
 
-pub is-closed-requires : goal.is-closed-requires
-is-closed-requires g c =
+pub is_closed-requires : goal.is_closed-requires
+is_closed-requires g c =
     let rows = view c.args.table.now in
     let names : Names rows (c.args.place + 1) = (omega arith, omega (arith, c.requires.place)) in
     subst (Within rows) (sym c.moved-wider.ensures) (moved_within rows c.args.range.now c.requires.within (c.args.place + 1) names c.args.end _ (omega (arith, c.loop-closed.invariant.1, c.loop-closed-test.true)))
@@ -34,7 +34,7 @@ loop-closed-preserved g c =
     let shut = Closed g.T.Test.answer c.args.test.now rows in
     let few = few_rows c.args.table.now in
     let names : Names rows k = (omega arith, omega (arith, c.requires.place)) in
-    let opened : shut c.moved-wider.result → ⊥ = λ closed. false≢true (sym c.if-is-closed.false ∙ c.is-closed.ensures.1 closed) in (
+    let opened : shut c.moved-wider.result → ⊥ = λ closed. false≢true (sym c.if-is_closed.false ∙ c.is_closed.ensures.1 closed) in (
       omega (arith, c.loop-closed-test.true),
       omega (arith, c.loop-closed-test.true, c.loop-closed.invariant.1),
       c.loop-closed.invariant.2,

@@ -7,14 +7,14 @@ use Rattle.orders.specs.declared.end.End.TheVariants.{Low, High}
 use Rattle.orders.specs.Growth.{span}
 use Rattle.orders.proofs.grow.span.Goals as goal
 
-pub overflow-sub-result : goal.overflow-sub-result
-overflow-sub-result c =
+pub overflow_sub-result : goal.overflow_sub-result
+overflow_sub-result c =
     let one = row_read c.args.rows.now c.args.place c.index-rows-place.result c.requires.place c.index-rows-place.is in
     let w = c.requires.within (c.args.place + 1) (omega arith, omega (arith, c.requires.place)) in
     omega (arith, c.wcet.ensures, ap (λ (r : Row). r.wcet) one, nth_next c.args.range.now.lows c.args.place 0, w.0)
 
-pub overflow-sub-result-in-High : goal.overflow-sub-result-in-High
-overflow-sub-result-in-High c =
+pub overflow_sub-result-in-High : goal.overflow_sub-result-in-High
+overflow_sub-result-in-High c =
     let one = row_read c.args.rows.now c.args.place c.index-rows-place.result c.requires.place c.index-rows-place.is in
     let w = c.requires.within (c.args.place + 1) (omega arith, omega (arith, c.requires.place)) in
     omega (arith, c.deadline.ensures, ap (λ (r : Row). r.deadline) one, nth_next c.args.range.now.highs c.args.place 0, w.2)

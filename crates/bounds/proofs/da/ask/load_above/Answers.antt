@@ -1,8 +1,6 @@
-use Rattle.std.proofs.Common.{◌≡◌, ◌+◌, sym, ap, ◌∙◌, arith}
+use Rattle.std.proofs.Common.{◌+◌, sym, arith}
 use Rattle.std.proofs.lemmas.Bool.{cond-true, cond-false}
-use Rattle.table.specs.declared.row.Row.{Row}
-use Rattle.table.specs.Rows.{row}
-use Rattle.bounds.specs.Loads.{deadline_part, carried}
+use Rattle.bounds.specs.Loads.{deadline_part}
 use Rattle.bounds.specs.Sounds.{row_read, row_named}
 use Rattle.bounds.specs.Sums.{sum_none, over_more}
 use Rattle.bounds.specs.Works.{deadline_load_le, deadline_part_lem}
@@ -12,8 +10,8 @@ use Rattle.bounds.proofs.da.ask.load_above.Goals.{then-above-place, else-above-p
 pub loop-place-init : goal.loop-place-init
 loop-place-init c = sym (sum_none _)
 
-pub overflow-add-sum : goal.overflow-add-sum
-overflow-add-sum c = omega (arith, c.loop-place.invariant, deadline_load_le c.args.rows.now c.args.task c.args.above.now c.loop-place.place)
+pub overflow_add-sum : goal.overflow_add-sum
+overflow_add-sum c = omega (arith, c.loop-place.invariant, deadline_load_le c.args.rows.now c.args.task c.args.above.now c.loop-place.place)
 
 pub loop-place-preserved : goal.loop-place-preserved
 loop-place-preserved c =
@@ -27,7 +25,7 @@ loop-place-preserved c =
           let own = row_named rows i c.index-rows-task.result c.requires.0 c.index-rows-task.is in
           let one = row_read rows place w.index-rows-place.result (omega arith) w.index-rows-place.is in
           let adds = cond-true _ (deadline_part rows i (place + 1)) 0 w.if-above-place.true in
-          let load = deadline_part_lem rows i (place + 1) c.index-rows-task.result w.index-rows-place.result w.deadline.result w.deadline-then-above-place.result w.carried-load-sum.result own one w.deadline.ensures w.deadline-then-above-place.ensures w.carried-load-sum.ensures in
+          let load = deadline_part_lem rows i (place + 1) c.index-rows-task.result w.index-rows-place.result w.deadline.result w.deadline-then-above-place.result w.carried_load-sum.result own one w.deadline.ensures w.deadline-then-above-place.ensures w.carried_load-sum.ensures in
           cc
       | else-above-place w ↦ let adds = cond-false _ (deadline_part rows i (place + 1)) 0 w.if-above-place.false in omega arith
     ]

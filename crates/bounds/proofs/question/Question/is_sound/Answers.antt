@@ -9,5 +9,5 @@ pub returns : goal.returns
 returns c =
     let q = c.args.self.now in
     Decides-at _ _
-    (c.sound-on.ensures ∙ ap (λ rows. soundb rows q.task q.above.now q.estimates.now) c.rows.ensures.value)
+    (c.sound_on.ensures ∙ ap (λ rows. soundb rows q.task q.above.now q.estimates.now) c.rows.ensures.value)
     (sound_decides (view q.table.now) q.task q.above.now q.estimates.now)

@@ -6,4 +6,4 @@ pub returns-then-place-rows : goal.returns-then-place-rows
 returns-then-place-rows c = sym (fits_none c.args.rows.now c.args.above.now c.args.estimates.now c.args.place (search rules))
 
 pub returns : goal.returns
-returns c = c.lies-within.ensures ∙ sym (fits_row c.args.rows.now c.args.above.now c.args.estimates.now c.args.place c.index-rows-place.result (search rules) c.index-rows-place.is)
+returns c = c.lies_within.ensures ∙ sym (fits_row c.args.rows.now c.args.above.now c.args.estimates.now c.args.place c.index-rows-place.result (search rules) c.index-rows-place.is)

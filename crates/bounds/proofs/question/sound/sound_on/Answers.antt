@@ -7,14 +7,14 @@ pub loop-place-init : goal.loop-place-init
 loop-place-init c = all_to_none _
 
 pub loop-place-preserved : goal.loop-place-preserved
-loop-place-preserved c = all_to_more _ c.loop-place.place (sym c.if-not-fits-at.ensures) c.loop-place.invariant
+loop-place-preserved c = all_to_more _ c.loop-place.place (sym c.if-not-fits_at.ensures) c.loop-place.invariant
 
 pub returns-then-above-task : goal.returns-then-above-task
 returns-then-above-task c = sym (unsound_own c.args.rows.now c.args.task c.args.above.now c.args.estimates.now (omega arith) c.if-above-task.true)
 
-pub returns-then-not-fits-at : goal.returns-then-not-fits-at
-returns-then-not-fits-at c =
-    sym (unsound_at c.args.rows.now c.args.task c.args.above.now c.args.estimates.now (c.loop-place.place + 1) (omega arith) (omega arith) (sym c.if-not-fits-at.ensures))
+pub returns-then-not-fits_at : goal.returns-then-not-fits_at
+returns-then-not-fits_at c =
+    sym (unsound_at c.args.rows.now c.args.task c.args.above.now c.args.estimates.now (c.loop-place.place + 1) (omega arith) (omega arith) (sym c.if-not-fits_at.ensures))
 
 pub returns : goal.returns
 returns c =

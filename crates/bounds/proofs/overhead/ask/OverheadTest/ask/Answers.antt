@@ -1,13 +1,12 @@
-use Rattle.std.proofs.Common.{◌≡◌, ◌+◌, sym, ap, ◌∙◌, subst, arith}
-use Rattle.table.specs.declared.row.Row.{Row}
+use Rattle.std.proofs.Common.{◌+◌, sym, ap, ◌∙◌, subst, arith}
 use Rattle.table.specs.Rows.{row, view, Names}
 use Rattle.bounds.specs.Overheads.{over}
 use Rattle.bounds.specs.Questions.{capped}
 use Rattle.bounds.proofs.overhead.ask.OverheadTest.ask.Goals as goal
 
 -- a bound from below says that the question is sound, and lies within the deadline
-pub add-within-requires : goal.add-within-requires
-add-within-requires g c =
+pub add_within-requires : goal.add_within-requires
+add_within-requires g c =
     let q = c.args.q.now in
     let rows = view q.table.now in
     let low = g.met.T.Test.kept.bound c.args.self.now.below rows q.task q.above.now q.estimates.now c.in-Some.bound (sym c.in-Some.ensures) in
@@ -21,6 +20,6 @@ returns-in-Some g c =
     let q = c.args.q.now in
     let x = c.args.self.now.extra in
     let bound = c.in-Some.bound in
-    c.add-within.ensures
+    c.add_within.ensures
     ∙ ap (λ rows. capped (row rows q.task).deadline (bound + x)) c.rows.ensures.value
     ∙ ap (over x (view q.table.now) q.task) c.in-Some.ensures
