@@ -1,11 +1,10 @@
 -- The assigner finds an order exactly when the range is open, from the laws alone.
-use Rattle.std.proofs.Common.{◌≡◌, ℕ, zero, suc, ◌+◌, ◌-◌, ◌<◌, ◌≤◌, Bool, true, false, cond, not, ◌&&◌, leb, ◌⊎◌, List, [], ◌∷◌, ◌++◌, length, get_or, set, replicate, Some, None, Option, sym, refl, ap, ◌∙◌, subst, inl, inr, add-one, arith, MatchOption}
-use Rattle.std.proofs.lemmas.List.{append-nil, length-append, get_or_append_left, get_or_at, append_assoc, length-replicate, set_comm}
-use Rattle.std.proofs.lemmas.Bool.{cases_eq, cases_lt, cases_Bool, cond-true, cond-false, and_parts, and_from, both_ways, leb-true, le-leb, false≢true}
+use Rattle.std.proofs.Common.{◌≡◌, ℕ, zero, suc, ◌+◌, ◌-◌, ◌<◌, ◌≤◌, Bool, true, false, List, [], ◌∷◌, ◌++◌, length, set, Some, None, Option, sym, refl, ap, ◌∙◌, subst, inl, inr, add-one, arith, MatchOption}
+use Rattle.std.proofs.lemmas.List.{append-nil, length-append, get_or_append_left, get_or_at, append_assoc, set_comm}
+use Rattle.std.proofs.lemmas.Bool.{cases_eq, cases_lt, cond-true, and_parts, and_from, both_ways, leb-true, le-leb, false≢true}
 use Rattle.table.specs.declared.row.Row.{Row}
 use Rattle.table.specs.Places.{nth, put}
-use Rattle.table.specs.Rows.{row, Names}
-use Rattle.table.proofs.Placed.{nth_at, put_at, nth_put_same, nth_put_other, nth_replicate, length_put}
+use Rattle.table.proofs.Placed.{put_at, nth_put_same, nth_put_other, nth_replicate, length_put}
 use Rattle.bounds.specs.Questions.{Sound, In, NoMore, Laws}
 use Rattle.bounds.specs.Loads.{sum_over}
 use Rattle.bounds.specs.Orders.{task_at, Order, first}
@@ -14,7 +13,7 @@ use Rattle.bounds.specs.Leasts.{least_is, least_none, least_before}
 use Rattle.bounds.proofs.Descents.{first_none, first_more}
 use Rattle.bounds.specs.Sounds.{in_low}
 use Rattle.orders.specs.declared.range.Range.{Range}
-use Rattle.orders.specs.Ranges.{low, high, Within, withinb, Passes, Admits, Open, Closed}
+use Rattle.orders.specs.Ranges.{high, Within, withinb, Passes, Admits, Closed}
 use Rattle.orders.specs.Assigner.{at_most, bind, full, candidate, fill, assigned, LowestNumbered}
 use Rattle.orders.proofs.Sets.{out, was_in, still_in, put_back, first_length, member_first, not_first, every, same_set, first_same, count_all, count_out, none_in, full_length, full_in, full_out, first_out}
 use Rattle.orders.proofs.Withins.{within_test}

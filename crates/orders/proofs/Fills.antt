@@ -1,16 +1,15 @@
 -- Steps of the assigner's loops.
-use Rattle.std.proofs.Common.{◌≡◌, ℕ, zero, suc, ◌+◌, ◌-◌, ◌<◌, ◌≤◌, Bool, true, false, cond, ◌&&◌, leb, ◌⊎◌, List, [], ◌∷◌, length, get_or, take, drop, set, replicate, Some, None, Option, sym, refl, ap, ◌∙◌, inl, inr, add-one, arith}
+use Rattle.std.proofs.Common.{◌≡◌, ℕ, zero, suc, ◌+◌, ◌-◌, ◌<◌, ◌≤◌, Bool, true, false, ◌&&◌, List, [], ◌∷◌, length, get_or, take, drop, set, replicate, Some, None, Option, sym, refl, ap, ◌∙◌, add-one, arith}
 use lib.Seq.{take-set-lt}
-use Rattle.std.proofs.lemmas.List.{get_or-set_same, get_or-set_other, drop-set, length-set, length-replicate, length-take-le, drop_all}
-use Rattle.std.proofs.lemmas.Bool.{cases_eq, cond-true, cond-false}
+use Rattle.std.proofs.lemmas.List.{drop-set, length-take-le, drop_all}
+use Rattle.std.proofs.lemmas.Bool.{cond-true, cond-false}
 use Rattle.table.specs.declared.row.Row.{Row}
-use Rattle.table.specs.Places.{nth, put}
+use Rattle.table.specs.Places.{put}
 use Rattle.table.proofs.Placed.{nth_at, put_at}
 use Rattle.bounds.specs.Responses.{least_from}
 use Rattle.orders.specs.declared.range.Range.{Range}
 use Rattle.orders.specs.Ranges.{high, withinb}
-use Rattle.orders.specs.Assigner.{at_most, bind, full, candidate, fill, assigned}
-use Rattle.orders.proofs.Withins.{within_test}
+use Rattle.orders.specs.Assigner.{at_most, full, candidate, fill, assigned}
 
 pub full_none : full 0 ≡ replicate 32 false
 unfolding full

@@ -1,18 +1,18 @@
 -- Growing a closed range: the ends are those of the rule, and the grown range is maximal.
-use Rattle.std.proofs.Common.{◌≡◌, ℕ, zero, suc, ◌+◌, ◌-◌, ◌<◌, ◌≤◌, Bool, ◌⊎◌, List, length, Some, None, Option, sym, refl, ap, ◌∙◌, subst, inl, inr, arith}
+use Rattle.std.proofs.Common.{◌≡◌, ℕ, suc, ◌+◌, ◌-◌, ◌<◌, ◌≤◌, Bool, ◌⊎◌, List, length, Some, None, Option, sym, refl, ap, ◌∙◌, subst, inl, inr, arith}
 use Rattle.std.proofs.lemmas.Bool.{cases_eq, cases_lt}
 use Rattle.table.specs.declared.row.Row.{Row}
-use Rattle.table.specs.Rows.{row, Names}
+use Rattle.table.specs.Rows.{Names}
 use Rattle.table.proofs.Placed.{nth_put_other}
 use Rattle.bounds.specs.Questions.{Laws}
 use Rattle.orders.specs.declared.range.Range.{Range}
 use Rattle.orders.specs.declared.end.End.{End}
 use Rattle.orders.specs.declared.end.End.TheVariants.{Low, High}
-use Rattle.orders.specs.Ranges.{low, high, Within, Contains, Wider, Open, Closed}
+use Rattle.orders.specs.Ranges.{low, high, Within, Contains, Open, Closed}
 use Rattle.orders.specs.Assigner.{assigned}
 use Rattle.orders.specs.Growth.{with_low, with_high, moved, span, Reaches, LowGrown, HighGrown, EndGrown, GrownTo, start, next, Maximal}
 use Rattle.orders.proofs.Audsley.{decided}
-use Rattle.orders.proofs.Moves.{low_here, high_here, within_low, within_high, contains_low, contains_high, contains_by_low, contains_by_high, moved_within, moved_contains, moved_none}
+use Rattle.orders.proofs.Moves.{low_here, high_here, within_low, within_high, contains_by_low, contains_by_high, moved_within, moved_contains, moved_none}
 use Rattle.orders.proofs.Narrows.{narrowing}
 
 module _ {T : Type 0} {answer : T → List Row → ℕ → List Bool → List ℕ → Option ℕ} (laws : Laws answer) (t : T) (rows : List Row) (few : length rows ≤ 32) where

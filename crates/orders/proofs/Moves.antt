@@ -1,9 +1,9 @@
 -- An end of a range moved out.
-use Rattle.std.proofs.Common.{◌≡◌, ℕ, ◌+◌, ◌-◌, ◌<◌, ◌≤◌, ◌⊎◌, List, length, get_or, sym, refl, ap, ◌∙◌, subst, inl, inr, arith}
+use Rattle.std.proofs.Common.{◌≡◌, ℕ, ◌+◌, ◌-◌, ◌≤◌, List, length, ap, ◌∙◌, inl, inr, arith}
 use Rattle.std.proofs.lemmas.List.{get_or_past}
 use Rattle.std.proofs.lemmas.Bool.{cases_eq, cases_lt}
 use Rattle.table.specs.declared.row.Row.{Row}
-use Rattle.table.specs.Places.{nth, put}
+use Rattle.table.specs.Places.{nth}
 use Rattle.table.specs.Rows.{row, Names}
 use Rattle.table.proofs.Placed.{nth_at, nth_put_same, nth_put_other}
 use Rattle.orders.specs.declared.range.Range.{Range}

@@ -1,14 +1,14 @@
 -- Narrowing keeps a range closed.
-use Rattle.std.proofs.Common.{◌≡◌, ℕ, ◌+◌, ◌<◌, ◌≤◌, Bool, true, false, List, length, Some, None, Option, sym, refl, ap, ◌∙◌, subst, arith}
+use Rattle.std.proofs.Common.{ℕ, ◌<◌, ◌≤◌, Bool, List, length, Some, Option, arith}
 use Rattle.std.proofs.lemmas.Bool.{both_ways}
 use Rattle.table.specs.declared.row.Row.{Row}
 use Rattle.table.specs.Places.{nth}
 use Rattle.table.specs.Rows.{row, Names}
-use Rattle.bounds.specs.Questions.{Sound, In, NoMore, Laws}
+use Rattle.bounds.specs.Questions.{Sound, Laws}
 use Rattle.bounds.specs.Orders.{task_at, Order, first}
 use Rattle.bounds.specs.Compared.{no_more_join}
 use Rattle.orders.specs.declared.range.Range.{Range}
-use Rattle.orders.specs.Ranges.{low, high, Within, Contains, Passes, Admits, Open, Closed}
+use Rattle.orders.specs.Ranges.{low, high, Within, Contains, Admits, Closed}
 use Rattle.orders.proofs.Sets.{first_in, not_first}
 
 -- a question about a task of an order is sound, if the estimates are

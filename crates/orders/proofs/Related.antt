@@ -1,5 +1,5 @@
 -- An order holds or has a late task; one that holds passes its own bounds, and one that passes estimates holds below them.
-use Rattle.std.proofs.Common.{◌≡◌, ℕ, zero, suc, ◌+◌, ◌<◌, ◌≤◌, Bool, true, false, ◌⊎◌, List, length, replicate, Some, None, Option, sym, refl, ap, ◌∙◌, subst, inl, inr, arith}
+use Rattle.std.proofs.Common.{◌≡◌, ℕ, zero, suc, ◌<◌, ◌≤◌, Bool, false, ◌⊎◌, List, length, replicate, Some, None, Option, sym, refl, ap, ◌∙◌, subst, inl, inr, arith}
 use Rattle.std.proofs.lemmas.List.{length-replicate}
 use Rattle.std.proofs.lemmas.Bool.{cases_eq}
 use Rattle.table.specs.declared.row.Row.{Row}
@@ -7,7 +7,7 @@ use Rattle.table.specs.Places.{nth, put}
 use Rattle.table.specs.Rows.{row, Names}
 use Rattle.table.proofs.Placed.{nth_replicate, nth_put_same, nth_put_other, length_put}
 use Rattle.bounds.specs.Questions.{In, NoMore, Laws}
-use Rattle.bounds.specs.Orders.{task_at, Order, first, padded, wcets, estimated, Estimates, answer_at, Bounded, LateAt, Holds, HasLate, PassesBy}
+use Rattle.bounds.specs.Orders.{task_at, Order, first, padded, wcets, estimated, answer_at, Bounded, LateAt, HasLate, PassesBy}
 use Rattle.bounds.specs.Compared.{no_more_join}
 use Rattle.bounds.proofs.Descents.{Reached, reached_none, reached_more, reached_late}
 use Rattle.bounds.proofs.Holding.{holds_not_late}

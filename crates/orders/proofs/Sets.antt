@@ -1,14 +1,13 @@
 -- Sets of tasks: what is in them, how many, and the first tasks of an order.
-use Rattle.std.proofs.Common.{◌≡◌, ℕ, zero, suc, ◌+◌, ◌-◌, ◌<◌, ◌≤◌, Bool, true, false, cond, not, ◌⊎◌, List, length, get_or, set, replicate, sym, refl, ap, ◌∙◌, subst, inl, inr, mul-one, add-one, arith}
+use Rattle.std.proofs.Common.{◌≡◌, ℕ, zero, suc, ◌+◌, ◌-◌, ◌<◌, ◌≤◌, Bool, true, false, cond, not, List, length, get_or, set, sym, refl, ap, ◌∙◌, inl, inr, mul-one, add-one, arith}
 use Rattle.std.proofs.lemmas.List.{ext_get_or, get_or_past, get_or-set_same, get_or-set_other, length-set, set-set, set-get_or, length-replicate}
-use Rattle.std.proofs.lemmas.Bool.{cases_eq, cases_Bool, cases_lt, cond-true, cond-false, both_ways, false≢true}
+use Rattle.std.proofs.lemmas.Bool.{cases_eq, cases_Bool, cases_lt, cond-true, cond-false, both_ways}
 use Rattle.table.specs.Places.{nth, put}
-use Rattle.table.proofs.Placed.{nth_at, nth_next, put_at, put_next, nth_put_same, nth_put_other, nth_replicate, length_put, nth_none}
+use Rattle.table.proofs.Placed.{nth_at, nth_next, put_at, nth_put_same, nth_put_other, nth_replicate, length_put, nth_none}
 use Rattle.orders.specs.Assigner.{full}
 use Rattle.bounds.specs.Questions.{In}
 use Rattle.bounds.specs.Loads.{sum_to, sum_over}
 use Rattle.bounds.specs.Orders.{task_at, Order, first}
-use Rattle.bounds.proofs.Descents.{first_none, first_more}
 use Rattle.bounds.proofs.Picked.{count_none, count_set}
 use Rattle.bounds.specs.Sounds.{in_low}
 use Rattle.bounds.specs.Sums.{sum_le}

@@ -1,13 +1,11 @@
 -- The computed test of a range says what Within says, and a table has few rows.
-use Rattle.std.proofs.Common.{◌≡◌, ℕ, ◌+◌, ◌<◌, ◌≤◌, Bool, true, false, ◌&&◌, leb, List, length, get_or, sym, refl, ap, ◌∙◌, arith}
+use Rattle.std.proofs.Common.{◌≡◌, ℕ, ◌+◌, ◌<◌, ◌≤◌, Bool, true, ◌&&◌, leb, List, length, get_or, ap, ◌∙◌, arith}
 use Rattle.std.proofs.lemmas.List.{length-take}
 use Rattle.std.proofs.lemmas.Bool.{and_parts, and_from, leb-true, le-leb}
 use Rattle.table.specs.declared.row.Row.{Row}
 use Rattle.table.specs.declared.rows.Table.{Table as Rows}
-use Rattle.table.specs.Places.{nth}
-use Rattle.table.specs.Rows.{row, Names, view}
+use Rattle.table.specs.Rows.{row, view}
 use Rattle.table.proofs.Placed.{nth_next}
-use Rattle.bounds.specs.Questions.{all_to}
 use Rattle.bounds.specs.Sounds.{all_to_at, all_to_from, row_read}
 use Rattle.orders.specs.declared.range.Range.{Range}
 use Rattle.orders.specs.Ranges.{low, high, Within, withinb}

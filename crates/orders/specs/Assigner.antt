@@ -1,12 +1,12 @@
 -- The assigner: levels filled from the lowest up, each by the lowest_numbered unplaced task that passes there.
-use Rattle.std.specs.Prelude.{◌≡◌, ℕ, zero, suc, ◌+◌, ◌<◌, ◌≤◌, Bool, true, false, cond, ◌&&◌, List, [], ◌∷◌, length, take, set, replicate, IfSome, Some, None, Option, MatchOption, nat_le, slice_set}
+use Rattle.std.specs.Prelude.{◌≡◌, ℕ, zero, suc, ◌+◌, ◌<◌, ◌≤◌, Bool, true, false, cond, ◌&&◌, List, [], ◌∷◌, length, take, replicate, IfSome, Some, None, Option, MatchOption, nat_le, slice_set}
 use Rattle.table.specs.declared.row.Row.{Row}
 use Rattle.table.specs.Places.{nth, put}
 use Rattle.bounds.specs.Questions.{In, NoMore}
 use Rattle.bounds.specs.Orders.{task_at, first}
 use Rattle.bounds.specs.Responses.{least_from}
 use Rattle.orders.specs.declared.range.Range.{Range}
-use Rattle.orders.specs.Ranges.{high, Within, withinb, Passes, Admits, Open, Closed}
+use Rattle.orders.specs.Ranges.{high, Within, withinb, Admits, Closed}
 
 -- an answer is at most a number; late is not
 abbrev pub at_most : Option ℕ → ℕ → Bool

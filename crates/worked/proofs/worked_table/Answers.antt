@@ -1,5 +1,4 @@
 use Rattle.std.proofs.Common.{◌≡◌, [], ◌∷◌, ◌++◌, length, refl, ap, ◌∙◌, arith}
-use Rattle.table.specs.declared.row.Row.{Row}
 use Rattle.table.specs.Rows.{view}
 use Rattle.worked.specs.Examples.{a, c as third}
 use Rattle.worked.proofs.Added.{added}

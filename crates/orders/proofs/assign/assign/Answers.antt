@@ -1,11 +1,9 @@
-use Rattle.std.proofs.Common.{◌≡◌, ℕ, ◌+◌, ◌-◌, ◌≤◌, false, List, [], ◌∷◌, length, take, drop, set, replicate, Some, None, Option, sym, refl, ap, ◌∙◌, subst, arith}
-use Rattle.std.proofs.lemmas.List.{length-take, length-set, length-replicate, get_or-set_other}
-use Rattle.std.proofs.lemmas.Bool.{cond-true, cond-false}
+use Rattle.std.proofs.Common.{◌≡◌, ℕ, ◌+◌, ◌-◌, ◌≤◌, false, ◌∷◌, length, take, drop, set, replicate, Some, None, sym, refl, ap, ◌∙◌, arith}
+use Rattle.std.proofs.lemmas.List.{length-set, length-replicate, get_or-set_other}
 use Rattle.table.specs.Rows.{view}
-use Rattle.table.specs.Places.{put}
 use Rattle.table.proofs.Placed.{put_at, nth_next, nth_replicate}
 use Rattle.bounds.specs.Responses.{least_from}
-use Rattle.orders.specs.Assigner.{candidate, fill, full, assigned}
+use Rattle.orders.specs.Assigner.{candidate, fill, full}
 use Rattle.orders.specs.Ranges.{withinb}
 use Rattle.orders.proofs.Audsley.{decided, lowest_numbered}
 use Rattle.orders.proofs.Fills.{least_end, least_here, least_later, placed_more, placed_none, fill_none, fill_more, fill_fails, assigned_by, assigned_not}

@@ -1,4 +1,4 @@
-use Rattle.std.proofs.Common.{sym, ◌∙◌}
+use Rattle.std.proofs.Common.{sym}
 use Rattle.table.specs.Rows.{view}
 use Rattle.orders.proofs.Fills.{candidate_read, candidate_placed}
 use Rattle.orders.proofs.assign.passes_at.Goals as goal

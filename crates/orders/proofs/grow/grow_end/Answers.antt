@@ -1,6 +1,6 @@
-use Rattle.std.proofs.Common.{◌≡◌, ℕ, ◌+◌, ◌-◌, ◌<◌, ◌≤◌, List, sym, ap, ◌∙◌, subst, arith}
+use Rattle.std.proofs.Common.{◌+◌, sym, subst, arith}
 use Rattle.table.specs.Rows.{view, Names}
-use Rattle.orders.specs.Growth.{moved, EndGrown}
+use Rattle.orders.specs.Growth.{EndGrown}
 use Rattle.orders.specs.Ranges.{Within, Closed}
 use Rattle.orders.proofs.Grows.{end_grown}
 use Rattle.orders.proofs.Moves.{moved_within}

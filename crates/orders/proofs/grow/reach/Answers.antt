@@ -1,8 +1,7 @@
-use Rattle.std.proofs.Common.{◌≡◌, ℕ, ◌+◌, ◌-◌, ◌<◌, ◌≤◌, List, sym, ap, ◌∙◌, subst, arith}
+use Rattle.std.proofs.Common.{◌≡◌, ◌+◌, sym, ap, ◌∙◌, subst, arith}
 use Rattle.std.proofs.lemmas.Bool.{false≢true}
-use Rattle.table.specs.declared.row.Row.{Row}
 use Rattle.table.specs.Rows.{view, Names}
-use Rattle.orders.specs.Growth.{moved, span}
+use Rattle.orders.specs.Growth.{span}
 use Rattle.orders.specs.Ranges.{Within, Closed}
 use Rattle.orders.proofs.Grows.{reach_start, open_farther}
 use Rattle.orders.proofs.Moves.{moved_within}

@@ -1,6 +1,5 @@
-use Rattle.std.proofs.Common.{◌≡◌, ◌+◌, ◌-◌, get_or, sym, ap, ◌∙◌, subst, arith}
+use Rattle.std.proofs.Common.{◌≡◌, ◌+◌, ◌-◌, get_or, sym, ap, ◌∙◌, arith}
 use Rattle.table.specs.declared.row.Row.{Row}
-use Rattle.table.specs.Rows.{row}
 use Rattle.table.proofs.Placed.{nth_next}
 use Rattle.bounds.specs.Sounds.{row_read}
 use Rattle.orders.specs.declared.end.End.TheVariants.{Low, High}
