@@ -540,9 +540,11 @@ mod tests {
         Ok(table)
     }
 
-    // The assigner gives this order, if any, and growth this range.
+    // The assigner gives this order, if any, and growth this range. The case goes by its list and its place there.
     fn gives<T: Test>(
         rt: &impl Abort,
+        list: &str,
+        place: usize,
         test: &T,
         table: &Table<Row>,
         range: &Range,
@@ -553,15 +555,17 @@ mod tests {
             Some(tasks) => Some(padded(tasks, 0)),
             None => None,
         };
-        assert_eq!(rt; assign(test, table, range), tasks);
+        assert_eq!(rt; assign(test, table, range), tasks, "{list}[{place}]");
         let found = grow(test, table, range);
-        assert_eq!(rt; found.lows, grown.lows);
-        assert_eq!(rt; found.highs, grown.highs);
+        assert_eq!(rt; found.lows, grown.lows, "{list}[{place}]");
+        assert_eq!(rt; found.highs, grown.highs, "{list}[{place}]");
         Ok(())
     }
 
     fn case_gives(
         rt: &impl Abort,
+        list: &str,
+        place: usize,
         case: &Case<'_>,
         order: Option<&[usize]>,
         grown: &Range,
@@ -570,10 +574,10 @@ mod tests {
         let range = range_of(case.lows, case.highs);
         let test = NamedTest::new(case.test.as_bytes(), case.processors)?;
         if case.overhead == 0 {
-            gives(rt, &test, &table, &range, order, grown)
+            gives(rt, list, place, &test, &table, &range, order, grown)
         } else {
             let over = Overhead::new(case.overhead, test)?;
-            gives(rt, &over, &table, &range, order, grown)
+            gives(rt, list, place, &over, &table, &range, order, grown)
         }
     }
 
@@ -582,7 +586,7 @@ mod tests {
         for (place, open) in OPEN.iter().enumerate() {
             let case = &open.case;
             let same = range_of(case.lows, case.highs);
-            case_gives(&rt, case, Some(open.order), &same).note(format_args!("OPEN[{place}]"))?;
+            case_gives(&rt, "OPEN", place, case, Some(open.order), &same)?;
         }
         Ok(())
     }
@@ -591,7 +595,7 @@ mod tests {
     fn grows_closed_ranges(rt: HostRuntime) -> Result<(), Fail> {
         for (place, closed) in CLOSED.iter().enumerate() {
             let grown = range_of(closed.grown_lows, closed.grown_highs);
-            case_gives(&rt, &closed.case, None, &grown).note(format_args!("CLOSED[{place}]"))?;
+            case_gives(&rt, "CLOSED", place, &closed.case, None, &grown)?;
         }
         Ok(())
     }
@@ -600,7 +604,7 @@ mod tests {
     fn gives_back_what_is_no_range(rt: HostRuntime) -> Result<(), Fail> {
         for (place, case) in NO_RANGES.iter().enumerate() {
             let same = range_of(case.lows, case.highs);
-            case_gives(&rt, case, None, &same).note(format_args!("NO_RANGES[{place}]"))?;
+            case_gives(&rt, "NO_RANGES", place, case, None, &same)?;
         }
         Ok(())
     }
@@ -612,8 +616,17 @@ mod tests {
         let lows = range_of(&[2, 2, 3], &[2, 2, 3]);
         let closed = range_of(&[2, 2, 3], &[3, 3, 4]);
         let open = range_of(&[2, 2, 3], &[3, 3, 5]);
-        gives(&rt, &test, &table, &lows, None, &closed)?;
-        gives(&rt, &test, &table, &closed, None, &closed)?;
-        gives(&rt, &test, &table, &open, Some(&[2, 1, 3]), &open)
+        gives(&rt, "worked", 0, &test, &table, &lows, None, &closed)?;
+        gives(&rt, "worked", 1, &test, &table, &closed, None, &closed)?;
+        gives(
+            &rt,
+            "worked",
+            2,
+            &test,
+            &table,
+            &open,
+            Some(&[2, 1, 3]),
+            &open,
+        )
     }
 }
