@@ -34,7 +34,8 @@ fn load_above(rows: &[Row], task: usize, above: &[bool; 32]) -> u32
     for place in 0..rows.len() {
         if above[place] {
             let row = rows[place];
-            sum += carried_load(own, own.deadline(), row, row.deadline());
+            let load = carried_load(own, own.deadline(), row, row.deadline());
+            sum += load;
         }
     }
     sum

@@ -25,7 +25,7 @@ loop-place-preserved c =
           let own = row_named rows i c.index-rows-task.result c.requires.0 c.index-rows-task.is in
           let one = row_read rows place w.index-rows-place.result (omega arith) w.index-rows-place.is in
           let adds = cond-true _ (deadline_part rows i (place + 1)) 0 w.if-above-place.true in
-          let load = deadline_part_lem rows i (place + 1) c.index-rows-task.result w.index-rows-place.result w.deadline.result w.deadline-then-above-place.result w.carried_load-sum.result own one w.deadline.ensures w.deadline-then-above-place.ensures w.carried_load-sum.ensures in
+          let load = deadline_part_lem rows i (place + 1) c.index-rows-task.result w.index-rows-place.result w.deadline.result w.deadline-then-above-place.result w.carried_load-load.result own one w.deadline.ensures w.deadline-then-above-place.ensures w.carried_load-load.ensures in
           cc
       | else-above-place w ↦ let adds = cond-false _ (deadline_part rows i (place + 1)) 0 w.if-above-place.false in omega arith
     ]
