@@ -16,6 +16,8 @@ HEAD = re.compile(
 )
 WORD = re.compile(r"(?<![^\s(){}\[\];,.λ\"@`|])" + IDENT)
 CLASH = {"next_cap": "next_cap as cap_after"}
+# The load of all tasks above; a function of src/ for the load of one has the plain spelling.
+OTHERS = {"carriedLoad": "carried_loads", "carried-load-mono": "carried_loads_mono"}
 # What port.py spelled anew in crates/, for the pages.
 PAGES = ("atMost", "capOf", "loadOf", "numberOf", "placeOf", "sumTo", "totalOf")
 
@@ -57,7 +59,7 @@ def own_names():
                     continue
                 kept.add(name)
                 if snake(name) != name:
-                    found[name] = snake(name)
+                    found[name] = OTHERS.get(name, snake(name))
                     if record is not None:
                         fields.add(name)
     return found, kept, fields

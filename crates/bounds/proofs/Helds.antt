@@ -8,7 +8,7 @@ use Rattle.table.proofs.Placed.{nth_next}
 use Rattle.bounds.specs.Questions.{In}
 use Rattle.bounds.specs.Loads.{work, cap_of, carried, plain, sum_to, total_of}
 use Rattle.bounds.specs.Orders.{wcets}
-use Rattle.bounds.specs.Responses.{Choice, Greatest, carried_load, plain_load, extra, limited_load}
+use Rattle.bounds.specs.Responses.{Choice, Greatest, carried_loads, plain_load, extra, limited_load}
 use Rattle.bounds.specs.Climbs.{Lists, work_at, Picked, Held, NeverFalls}
 use Rattle.bounds.specs.Greatests.{greatest_is, greatest_one}
 use Rattle.bounds.specs.Sounds.{row_read}
@@ -53,7 +53,7 @@ module _ (rows : List Row) (i : ℕ) (s : List Bool) (e : List ℕ) (within : Wi
         | inr z ↦ omega (arith, lists k low high, cond-false (nth s k false) (work (row rows k) (l + nth e k 0 - (row rows k).wcet)) 0 z)
       ]
 
-  pub held_all : l ≤ 1000000 → Held (carried_load rows i s e) (row rows i) (length rows) l held
+  pub held_all : l ≤ 1000000 → Held (carried_loads rows i s e) (row rows i) (length rows) l held
   held_all short = record {
     here = sum_same _ _ (length rows) (λ k low high.
         let w = work (row rows k) (l + nth e k 0 - (row rows k).wcet) in

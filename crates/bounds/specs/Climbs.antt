@@ -8,11 +8,11 @@ use Rattle.bounds.specs.declared.carry.CarryIn.{CarryIn}
 use Rattle.bounds.specs.declared.carry.CarryIn.TheVariants.{All, AtMost}
 use Rattle.bounds.specs.Questions.{In, soundb}
 use Rattle.bounds.specs.Loads.{work, cap_of, sum_to, total_of, sum_over}
-use Rattle.bounds.specs.Responses.{least_fit, carried_load, limited_load}
+use Rattle.bounds.specs.Responses.{least_fit, carried_loads, limited_load}
 
 -- the load in each window, by how many tasks may carry load in
 abbrev pub load_of : CarryIn → List Row → ℕ → List Bool → List ℕ → ℕ → ℕ
-load_of All rows i above estimates = carried_load rows i above estimates
+load_of All rows i above estimates = carried_loads rows i above estimates
 load_of (AtMost c) rows i above estimates = limited_load c rows i above estimates
 
 -- the answer of a test that climbs, by how many tasks may carry load in

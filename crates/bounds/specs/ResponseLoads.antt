@@ -9,7 +9,7 @@ use Rattle.bounds.specs.declared.rta.Rta.{Rta}
 use Rattle.bounds.specs.declared.lc.Lc.{Lc}
 use Rattle.bounds.specs.Questions.{In, Laws, soundb}
 use Rattle.bounds.specs.Loads.{carried}
-use Rattle.bounds.specs.Responses.{carried_load, rta, greatest, plain_load, extra, limited_load, lc, Least, RtaMeaning, LcMeaning}
+use Rattle.bounds.specs.Responses.{carried_loads, rta, greatest, plain_load, extra, limited_load, lc, Least, RtaMeaning, LcMeaning}
 use Rattle.bounds.specs.Leasts.{fit_laws, fit_least}
 use Rattle.bounds.specs.Greatests.{greatest_is}
 use Rattle.bounds.specs.Sounds.{sound_test}
@@ -19,8 +19,8 @@ use Rattle.bounds.specs.Works.{work_mono}
 carried_mono : (i : Row) (l : ℕ) (j : Row) (e f : ℕ) → e ≤ f → carried i l j e ≤ carried i l j f
 carried_mono i l j e f h = omega (arith, work_mono j (l + e - j.wcet) (l + f - j.wcet) (omega arith))
 
-carried_load_mono : (rows : List Row) (i : ℕ) (s u : List Bool) (e f : List ℕ) → ((k : ℕ) → In s k → In u k) → ((k : ℕ) → Names rows k → In s k → nth e k 0 ≤ nth f k 0) → (l : ℕ) → carried_load rows i s e l ≤ carried_load rows i u f l
-carried_load_mono rows i s u e f sub le l =
+carried_loads_mono : (rows : List Row) (i : ℕ) (s u : List Bool) (e f : List ℕ) → ((k : ℕ) → In s k → In u k) → ((k : ℕ) → Names rows k → In s k → nth e k 0 ≤ nth f k 0) → (l : ℕ) → carried_loads rows i s e l ≤ carried_loads rows i u f l
+carried_loads_mono rows i s u e f sub le l =
     over_mono s u _ _ (length rows) sub (λ k low high y. carried_mono (row rows i) l (row rows k) (nth e k 0) (nth f k 0) (le k (low, high) y))
 
 greatest_mono : (s u : List Bool) (f g : ℕ → ℕ) (c n : ℕ) → ((k : ℕ) → In s k → In u k) → ((k : ℕ) → 1 ≤ k → k ≤ n → In s k → f k ≤ g k) → greatest s f c n ≤ greatest u g c n
@@ -46,14 +46,14 @@ limited_load_mono c rows i s u e f sub le l =
     omega (arith, plains, extras)
 
 pub rta_laws : Laws {T = Rta} (λ t. rta t.processors.count)
-rta_laws = fit_laws (λ (t : Rta). t.processors.count) (λ t. omega (arith, t.processors.ok)) (λ _. carried_load) (λ _. carried_load_mono)
+rta_laws = fit_laws (λ (t : Rta). t.processors.count) (λ t. omega (arith, t.processors.ok)) (λ _. carried_loads) (λ _. carried_loads_mono)
 
 pub lc_laws : Laws {T = Lc} (λ t. lc t.processors.count)
 lc_laws = fit_laws (λ (t : Lc). t.processors.count) (λ t. omega (arith, t.processors.ok)) (λ t. limited_load (t.processors.count - 1)) (λ t. limited_load_mono (t.processors.count - 1))
 
 pub rta_means : RtaMeaning
 rta_means m rows i s e sound =
-    subst (Least m (row rows i) (carried_load rows i s e)) (sym (cond-true (soundb rows i s e) _ None (sound_test rows i s e sound))) (fit_least m (row rows i) (carried_load rows i s e))
+    subst (Least m (row rows i) (carried_loads rows i s e)) (sym (cond-true (soundb rows i s e) _ None (sound_test rows i s e sound))) (fit_least m (row rows i) (carried_loads rows i s e))
 
 pub lc_means : LcMeaning
 lc_means m rows i s e sound = (

@@ -22,16 +22,16 @@ Least m i load r =
     (λ b. (i.wcet ≤ b) × (b ≤ i.deadline) × (i.wcet + load b / m ≤ b) × ((l : ℕ) → i.wcet ≤ l → l < b → i.wcet + load l / m ≤ l → ⊥))
 
 -- rta's load in a window: the carried loads of the tasks above with their estimates
-abbrev pub carried_load : List Row → ℕ → List Bool → List ℕ → ℕ → ℕ
-carried_load rows i above estimates l = sum_over above (λ k. carried (row rows i) l (row rows k) (nth estimates k 0)) (length rows)
+abbrev pub carried_loads : List Row → ℕ → List Bool → List ℕ → ℕ → ℕ
+carried_loads rows i above estimates l = sum_over above (λ k. carried (row rows i) l (row rows k) (nth estimates k 0)) (length rows)
 
 -- rta: the least window that fits its load; an unsound question is late
 abbrev pub rta : ℕ → List Row → ℕ → List Bool → List ℕ → Option ℕ
-rta m rows i above estimates = cond (soundb rows i above estimates) (least_fit m (row rows i) (carried_load rows i above estimates)) None
+rta m rows i above estimates = cond (soundb rows i above estimates) (least_fit m (row rows i) (carried_loads rows i above estimates)) None
 
 -- rta's answer to a sound question is the least window that fits the carried loads
 abbrev pub RtaMeaning : Type 0
-RtaMeaning = (m : ℕ) (rows : List Row) (i : ℕ) (above : List Bool) (estimates : List ℕ) → Sound rows i above estimates → Least m (row rows i) (carried_load rows i above estimates) (rta m rows i above estimates)
+RtaMeaning = (m : ℕ) (rows : List Row) (i : ℕ) (above : List Bool) (estimates : List ℕ) → Sound rows i above estimates → Least m (row rows i) (carried_loads rows i above estimates) (rta m rows i above estimates)
 
 -- a choice of at most c tasks of a set, among the rows 1 to n
 pub record Choice (set : List Bool) (c n : ℕ) (chosen : ℕ → Bool) : Type 0 where
