@@ -103,7 +103,11 @@ def main():
     for path in files(".antt", ".rt"):
         with open(path, encoding="utf-8") as f:
             text = f.read()
-        turned = turn(text, names, fields) if path.endswith(".antt") else clauses(text, names, fields)
+        if path.endswith(".antt"):
+            # Comments stay as they are.
+            turned = "\n".join(s if s.lstrip().startswith("--") else turn(s, names, fields) for s in text.split("\n"))
+        else:
+            turned = clauses(text, names, fields)
         if path.endswith(".rt"):
             for spelled, alias in CLASH.items():
                 if re.search(rf"\bfn {spelled}\b", turned) and re.search(rf"ghost use [^;]*\b{spelled}\b", turned):

@@ -1,4 +1,4 @@
--- The assigner: levels filled from the lowest up, each by the lowest_numbered unplaced task that passes there.
+-- The assigner: levels filled from the lowest up, each by the lowest-numbered unplaced task that passes there.
 use Rattle.std.specs.Prelude.{◌≡◌, ℕ, zero, suc, ◌+◌, ◌<◌, ◌≤◌, Bool, true, false, cond, ◌&&◌, List, [], ◌∷◌, length, take, replicate, IfSome, Some, None, Option, MatchOption, nat_le, slice_set}
 use Rattle.table.specs.declared.row.Row.{Row}
 use Rattle.table.specs.Places.{nth, put}
@@ -49,6 +49,6 @@ module _ {T : Type 0} (answer : T → List Row → ℕ → List Bool → List �
   abbrev pub LowestNumbered : List ℕ → Type 0
   LowestNumbered order = (p : ℕ) → p < length rows → (k : ℕ) → k < task_at order p → In (first order (p + 1)) k → NoMore (answer t rows k (put (first order (p + 1)) k false) r.lows) (Some (high r k)) → ⊥
 
-  -- each level of an order that the assigner gives has the lowest_numbered unplaced task that passes there
+  -- each level of an order that the assigner gives has the lowest-numbered unplaced task that passes there
   abbrev pub FillsLowest : Option (List ℕ) → Type 0
   FillsLowest found = IfSome found (λ tasks. LowestNumbered (take (length rows) tasks))
