@@ -52,7 +52,7 @@ def own_names():
                 if re.match(r"\s*((abbrev|pub)\s+)*record\b.*\bwhere\s*$", line):
                     record = deep
                 head = HEAD.match(line)
-                if not head or re.match(r"\s*(let|in|use|module|elim|--)\b", line):
+                if not head or re.match(r"\s*(let|in|use|module|elim)\s|\s*--", line):
                     continue
                 name = head[3]
                 if name[0].isupper():

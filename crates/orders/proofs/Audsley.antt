@@ -151,8 +151,8 @@ module _ {T : Type 0} {answer : T → List Row → ℕ → List Bool → List �
     }
 
     -- a task of the order is among its first ones
-    in-front : (front : List ℕ) (l : ℕ) {left : List Bool} → Ordered left front l → (p : ℕ) → p < l → (k : ℕ) → task_at front p ≡ k → In (first front l) k
-    in-front front l o p m k e = ap (λ j. nth (first front l) j false) (sym e) ∙ member_first front (length rows) few o.inside l p m (omega arith)
+    in_front : (front : List ℕ) (l : ℕ) {left : List Bool} → Ordered left front l → (p : ℕ) → p < l → (k : ℕ) → task_at front p ≡ k → In (first front l) k
+    in_front front l o p m k e = ap (λ j. nth (first front l) j false) (sym e) ∙ member_first front (length rows) few o.inside l p m (omega arith)
 
     ordered_more : (left : List Bool) (front : List ℕ) (l k : ℕ) → 1 ≤ k → k ≤ length rows → ok left k ≡ true → ((j : ℕ) → 1 ≤ j → j < k → ok left j ≡ true → ⊥) → Ordered (put left k false) front l → Ordered left (front ++ k ∷ []) (suc l)
     ordered_more left front l k low' high' passed least o =
@@ -164,7 +164,7 @@ module _ {T : Type 0} {answer : T → List Row → ℕ → List Bool → List �
         let whole : first all (l + 1) ≡ left =
         first_more all l ∙ ap (λ s. put s (task_at all l) true) (firsts l (omega arith) ∙ o.is) ∙ ap (λ j. put (put left k false) j true) last ∙ put_back left k true member low' in
         let new : (p : ℕ) → p < l → task_at front p ≡ k → ⊥ =
-        λ p m e. both_ways _ (out left k) (ap (λ s. nth s k false) (sym o.is) ∙ in-front front l o p m k e) in
+        λ p m e. both_ways _ (out left k) (ap (λ s. nth s k false) (sym o.is) ∙ in_front front l o p m k e) in
         record {
           size = length-append front (k ∷ []) ∙ omega (arith, o.size);
           is = ap (first all) (sym (add-one l)) ∙ whole;

@@ -107,8 +107,8 @@ module _ {T : Type 0} {answer : T → List Row → ℕ → List Bool → List �
   state_next r k q low' high' s names gl gh =
       let lower = state_low r k q low' s names gl in
       let ge = high_value low' (suc k) high' lower.0 names lower.2 gh in
-      let lowIs : low low' (suc k) ≡ gl.value = ap (λ x. low x (suc k)) gl.is ∙ low_here rows q s.within (suc k) names gl.value in
-      let highIs : high high' (suc k) ≡ gh.value = ap (λ x. high x (suc k)) gh.is ∙ high_here rows low' lower.0 (suc k) names gh.value in
+      let low_is : low low' (suc k) ≡ gl.value = ap (λ x. low x (suc k)) gl.is ∙ low_here rows q s.within (suc k) names gl.value in
+      let high_is : high high' (suc k) ≡ gh.value = ap (λ x. high x (suc k)) gh.is ∙ high_here rows low' lower.0 (suc k) names gh.value in
       let kept : low high' (suc k) ≡ low low' (suc k) = ap (λ x. low x (suc k)) gh.is in
       let within' : Within rows high' = subst (Within rows) (sym gh.is) (within_high rows low' lower.0 (suc k) names gh.value ge gh.greatest) in
       let up : Contains rows high' low' = subst (λ x. Contains rows x low') (sym gh.is) (contains_by_high rows low' lower.0 (suc k) names gh.value ge) in
@@ -121,20 +121,20 @@ module _ {T : Type 0} {answer : T → List Row → ℕ → List Bool → List �
             elim (cases_eq j (suc k)) [
               | inl e ↦ elim differs [
                 | inl l ↦
-                    let lw : low w (suc k) < gl.value = omega (arith, l, ap (low w) e, ap (low high') e, kept, lowIs) in
+                    let lw : low w (suc k) < gl.value = omega (arith, l, ap (low w) e, ap (low high') e, kept, low_is) in
                     let narrow = contains_at_low w q (suc k) names s.within (contains_join w high' q c over) in
                     gl.below (low w (suc k)) (hw (suc k) names).0 lw
                     (narrowing laws t rows few w (with_low q (suc k) (low w (suc k))) hw (within_low rows q s.within (suc k) names (low w (suc k)) (hw (suc k) names).0 (contains_join w high' q c over (suc k) names).0) narrow shut)
                 | inr l ↦
-                    let hl : gh.value < high w (suc k) = omega (arith, l, ap (high w) e, ap (high high') e, highIs) in
+                    let hl : gh.value < high w (suc k) = omega (arith, l, ap (high w) e, ap (high high') e, high_is) in
                     let narrow = contains_at_high w low' (suc k) names lower.0 (contains_join w high' low' c up) in
                     gh.above (high w (suc k)) hl (hw (suc k) names).2
                     (narrowing laws t rows few w (with_high low' (suc k) (high w (suc k))) hw (within_high rows low' lower.0 (suc k) names (high w (suc k)) (contains_join w high' low' c up (suc k) names).1 (hw (suc k) names).2) narrow shut)
               ]
               | inr d ↦
-                  let sameLow : low high' j ≡ low q j = ap (λ x. low x j) gh.is ∙ ap (λ x. low x j) gl.is ∙ nth_put_other q.lows (suc k) j gl.value 0 d in
-                  let sameHigh : high high' j ≡ high q j = ap (λ x. high x j) gh.is ∙ nth_put_other low'.highs (suc k) j gh.value 0 d ∙ ap (λ x. high x j) gl.is in
-                  s.maximal w hw (contains_join w high' q c over) j nj (omega arith) (elim differs [ inl l ↦ inl (omega (arith, l, sameLow)) | inr l ↦ inr (omega (arith, l, sameHigh)) ]) shut
+                  let same_low : low high' j ≡ low q j = ap (λ x. low x j) gh.is ∙ ap (λ x. low x j) gl.is ∙ nth_put_other q.lows (suc k) j gl.value 0 d in
+                  let same_high : high high' j ≡ high q j = ap (λ x. high x j) gh.is ∙ nth_put_other low'.highs (suc k) j gh.value 0 d ∙ ap (λ x. high x j) gl.is in
+                  s.maximal w hw (contains_join w high' q c over) j nj (omega arith) (elim differs [ inl l ↦ inl (omega (arith, l, same_low)) | inr l ↦ inr (omega (arith, l, same_high)) ]) shut
             ];
       }
 

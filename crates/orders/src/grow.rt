@@ -1,7 +1,7 @@
 // Growth: the ends of a closed range moved out as far as it stays closed.
 ghost use Rattle.std.specs.Prelude.{◌≡◌, ◌+◌, ◌<◌, ◌≤◌, length, Decides};
 ghost use Rattle.table.specs.Rows.{view, Names};
-ghost use Rattle.orders.specs.Growth.{moved as movedOut, span as span_of, Reaches, EndGrown, GrownTo, Grown, GivenBack, GrownMaximal, Narrowing};
+ghost use Rattle.orders.specs.Growth.{moved as moved_out, span as span_of, Reaches, EndGrown, GrownTo, Grown, GivenBack, GrownMaximal, Narrowing};
 ghost use Rattle.orders.specs.Ranges.{Within, Closed};
 
 use crate::assign::{assign, is_range};
@@ -39,7 +39,7 @@ fn moved(rows: &[Row], range: &Range, end: End, place: usize, by: u32) -> Range
     requires few { length rows.now ≤ 32 }
     requires within { Within rows.now range.now }
     requires short { by ≤ span_of end rows.now range.now (place + 1) }
-    ensures { result ≡ movedOut end range.now (place + 1) by }
+    ensures { result ≡ moved_out end range.now (place + 1) by }
 {
     let mut lows = range.lows;
     let mut highs = range.highs;
