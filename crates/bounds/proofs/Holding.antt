@@ -41,7 +41,7 @@ module _ {T : Type 0} (answer : T → List Row → ℕ → List Bool → List �
     estimate_is : (p : ℕ) → p < length order → nth (padded es) (task_at order p) 0 ≡ nth es (task_at order p) 0
     estimate_is p l =
         let row = o.rows p (omega (arith, o.size)) in
-        padded_at es (task_at order p) row.0 (omega (arith, row.1)) (omega arith)
+        padded_at es (task_at order p) row.0 (omega (arith, row.1))
 
     meets_is : (p : ℕ) → p < length order → NoMore (answer_with answer t rows order es p) (Some (nth (padded es) (task_at order p) 0)) ≡ MeetsAt answer t rows order es p
     meets_is p l = ap (λ x. NoMore (answer_with answer t rows order es p) (Some x)) (estimate_is p l)

@@ -1,12 +1,15 @@
 pub mod Descents
+pub mod FromFn
+pub mod Handed
 pub mod Helds
 pub mod Listed
-pub mod Listing
 pub mod Making
+pub mod Meets
 pub mod Misses
 pub mod Padded
 pub mod Picked
 pub mod Skips
+pub mod Spans
 pub mod Tallies
 pub mod Wcets
 pub mod Writes

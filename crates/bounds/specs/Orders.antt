@@ -29,9 +29,13 @@ first order (suc p) = put (first order p) (task_at order p) true
 abbrev pub padded : List ℕ → List ℕ
 padded xs = take 32 (xs ++ replicate 32 0)
 
+-- the C of each row
+abbrev pub costs : List Row → List ℕ
+costs rows = map (λ (r : Row). r.wcet) rows
+
 -- the estimates of which each is its row's C
 abbrev pub wcets : List Row → List ℕ
-wcets rows = padded (map (λ (r : Row). r.wcet) rows)
+wcets rows = padded (costs rows)
 
 -- the estimates once the first p tasks of an order have their bounds: these bounds, and C for every other row
 unfoldable pub estimated : List Row → List ℕ → List ℕ → ℕ → List ℕ
@@ -41,6 +45,10 @@ estimated rows order bounds (suc p) = put (estimated rows order bounds p) (task_
 -- nothing is found exactly when this holds
 abbrev pub NoneWhen : {A : Type 0} → Option A → Type 0 → Type 0
 NoneWhen found P = (found ≡ None → P) × (P → found ≡ None)
+
+-- a list is refused: there is no row, or it is no order
+abbrev pub RefusesOrder : List Row → List ℕ → Fault → Type 0
+RefusesOrder rows order fault = Asks (1 ≤ length rows) (fault ≡ Empty) (Asks (Order (length rows) order) (fault ≡ BadOrder nowhere) ⊥)
 
 -- there is exactly one estimate for each row, from its C to its D
 pub record Estimates (rows : List Row) (estimates : List ℕ) : Type 0 where

@@ -1,33 +1,27 @@
 // The bounds of an order, from the top down.
 ghost use Rattle.std.specs.Prelude.{◌≡◌, length};
 ghost use Rattle.table.specs.Rows.{view};
-ghost use Rattle.bounds.specs.Orders.{Order, Found, Analyses};
+ghost use Rattle.bounds.specs.Orders.{Found, Analyses};
 
 use crate::estimates::wcets_of;
-use crate::order::is_order;
+use crate::ordered::Ordered;
 use crate::question::Question;
 use crate::test::Test;
-use table::fault::{Fault, Place};
+use table::fault::Fault;
 use table::row::Row;
 use table::rows::Table;
 
 // Goes down the order until a task is late, and writes each bound in its row's place.
-fn find_bounds<T: Test>(
-    test: &T,
-    table: &Table<Row>,
-    order: &[usize],
-    bounds: &mut [u32],
-) -> Option<usize>
-    requires { (Order (length (view table.now)) order.now) × (length bounds.old ≡ length (view table.now)) }
-    ensures { Found T.answer test.now (view table.now) order.now result bounds.new }
+fn find_bounds<T: Test>(test: &T, ordered: &Ordered<'_>, bounds: &mut [u32]) -> Option<usize>
+    requires { length bounds.old ≡ length (view ordered.now.table.now) }
+    ensures { Found T.answer test.now (view ordered.now.table.now) ordered.now.order.now result bounds.new }
 {
     let mut above = [false; 32];
-    let mut estimates = wcets_of(table.rows());
+    let mut estimates = wcets_of(ordered.table.rows());
     bounds.fill(0);
-    for k in order {
-        let task = *k;
+    for &task in ordered.order {
         let question = Question {
-            table,
+            table: ordered.table,
             task,
             above: &above,
             estimates: &estimates,
@@ -52,15 +46,9 @@ pub fn analyse<T: Test>(
 ) -> Result<Option<usize>, Fault>
     ensures { Analyses T.answer test.now (view table.now) order.now bounds.old result bounds.new }
 {
-    let rows = table.len();
-    if rows == 0 {
-        return Err(Fault::Empty);
-    }
-    if !is_order(rows, order) {
-        return Err(Fault::BadOrder(Place::NOWHERE));
-    }
-    if bounds.len() != rows {
+    let ordered = Ordered::new(table, order)?;
+    if bounds.len() != table.len() {
         return Err(Fault::BadLength);
     }
-    Ok(find_bounds(test, table, order, bounds))
+    Ok(find_bounds(test, &ordered, bounds))
 }

@@ -1,24 +1,27 @@
-// Estimates by row: whether one lies within its row, and those of which each is its row's wcet.
-ghost use Rattle.std.specs.Prelude.{◌≡◌, ◌≤◌, ◌&&◌, length, nat_le};
-ghost use Rattle.bounds.specs.Orders.{wcets};
+// Lists of 32 places, by row.
+ghost use Rattle.std.specs.Prelude.{◌≡◌, slice_index};
+ghost use Rattle.bounds.specs.Orders.{padded as filled, costs, wcets};
 
+use std::array;
 use table::row::Row;
 
-// Whether an estimate lies from the row's wcet to its deadline.
-pub(crate) fn lies_within(row: Row, estimate: u32) -> bool
-    ensures { result ≡ (nat_le row.wcet estimate && nat_le estimate row.deadline) }
+// The numbers in their places, and 0 past the last.
+pub(crate) fn padded(numbers: &[u32]) -> [u32; 32]
+    ensures { result ≡ filled numbers.now }
 {
-    row.wcet() <= estimate && estimate <= row.deadline()
+    array::from_fn(|place| numbers.get(place).copied().unwrap_or(0))
+}
+
+// The wcet of the row at a place, and 0 where there is no row.
+fn wcet_at(rows: &[Row], place: usize) -> u32
+    ensures { result ≡ slice_index (costs rows.now) place }
+{
+    rows.get(place).map_or(0, |row| row.wcet())
 }
 
 // Each row's wcet in its place, and 0 past the last row.
 pub(crate) fn wcets_of(rows: &[Row]) -> [u32; 32]
-    requires { length rows.now ≤ 32 }
     ensures { result ≡ wcets rows.now }
 {
-    let mut wcets = [0; 32];
-    for place in 0..rows.len() {
-        wcets[place] = rows[place].wcet();
-    }
-    wcets
+    array::from_fn(|place| wcet_at(rows, place))
 }

@@ -11,7 +11,7 @@ pub mod lc;
 mod load;
 pub mod miss;
 pub mod named;
-mod order;
+mod ordered;
 pub mod overhead;
 mod picks;
 pub mod processors;

@@ -28,5 +28,5 @@ pub(crate) fn carried_load(own: Row, window: u32, row: Row, estimate: u32) -> u3
 pub(crate) fn within(deadline: u32, bound: u32) -> Option<u32>
     ensures { result ≡ capped deadline bound }
 {
-    if bound <= deadline { Some(bound) } else { None }
+    (bound <= deadline).then_some(bound)
 }

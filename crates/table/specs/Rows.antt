@@ -1,5 +1,5 @@
 -- Rows, tables of rows, and what each call of a table does.
-use Rattle.std.specs.Prelude.{◌≡◌, ℕ, ◌-◌, ◌<◌, ◌≤◌, List, [], ◌∷◌, ◌++◌, length, take, Ok, Err, Result, slice_set}
+use Rattle.std.specs.Prelude.{◌≡◌, ℕ, ◌-◌, ◌<◌, ◌≤◌, Bool, ◌&&◌, nat_le, List, [], ◌∷◌, ◌++◌, length, take, Ok, Err, Result, slice_set}
 use Rattle.std.proofs.Common.{lit≤}
 use Rattle.std.specs.Borrow.{RattleType}
 use Rattle.std.specs.List.{remove}
@@ -19,6 +19,10 @@ IsRow wcet period deadline = (1 ≤ wcet) × (wcet ≤ deadline) × (deadline �
 -- a row is of these numbers
 abbrev pub Of : Row → ℕ → ℕ → ℕ → Type 0
 Of row wcet period deadline = (row.wcet ≡ wcet) × (row.period ≡ period) × (row.deadline ≡ deadline)
+
+-- from low to high lies between a row's C and its D, computed
+abbrev pub spans : Row → ℕ → ℕ → Bool
+spans r low high = nat_le r.wcet low && (nat_le low high && nat_le high r.deadline)
 
 -- what stands where there is no row
 abbrev pub filler : Row

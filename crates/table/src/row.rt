@@ -2,9 +2,9 @@
 ghost use Rattle.std.specs.Prelude.{◌≤◌};
 
 pub mod made;
-pub mod same;
 
-#[derive(Clone, Copy)]
+/// Two rows are equal where their three numbers are.
+#[derive(Clone, Copy, PartialEq, Eq, Debug)]
 pub struct Row {
     wcet: u32,
     period: u32,

@@ -43,9 +43,7 @@ impl<T: Test> Test for Overhead<T> {
     ghost kept = { over_laws T.Test.kept };
 
     fn ask(&self, q: &Question<'_>) -> Option<u32> {
-        match self.below.ask(q) {
-            Some(bound) => add_within(q.table.rows(), q.task, bound, self.extra),
-            None => None,
-        }
+        let bound = self.below.ask(q)?;
+        add_within(q.table.rows(), q.task, bound, self.extra)
     }
 }

@@ -3,7 +3,6 @@ ghost use Rattle.std.specs.Prelude.{◌≡◌, ◌+◌, ◌<◌, Decides};
 ghost use Rattle.bounds.specs.Questions.{SoundQuestion, soundb, fitsb};
 
 use super::Question;
-use crate::estimates::lies_within;
 use table::row::Row;
 
 // Whether the row at a place has a sound estimate, and what is no row is not above.
@@ -14,7 +13,7 @@ fn fits_at(rows: &[Row], above: &[bool; 32], estimates: &[u32; 32], place: usize
     if place >= rows.len() {
         return !above[place];
     }
-    lies_within(rows[place], estimates[place])
+    rows[place].spans(estimates[place], estimates[place])
 }
 
 // Whether a question on these rows is sound.

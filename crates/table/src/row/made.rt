@@ -1,6 +1,6 @@
 // A row is made here and nowhere else.
-ghost use Rattle.std.specs.Prelude.{◌≡◌};
-ghost use Rattle.table.specs.Rows.{MadeRow};
+ghost use Rattle.std.specs.Prelude.{◌≡◌, ◌≤◌, ◌↔◌, IsTrue};
+ghost use Rattle.table.specs.Rows.{MadeRow, spans};
 
 use super::Row;
 use crate::fault::{Fault, Place};
@@ -47,5 +47,14 @@ impl Row {
         ensures { result ≡ self.now.deadline }
     {
         self.deadline
+    }
+
+    /// Whether `low` to `high` lies between the wcet and the deadline.
+    pub fn spans(&self, low: u32, high: u32) -> bool
+        ensures value { result ≡ spans self.now low high }
+        ensures lies { IsTrue result ↔ ((self.now.wcet ≤ low) × (low ≤ high) × (high ≤ self.now.deadline)) }
+    {
+        let Row { wcet, deadline, .. } = *self;
+        wcet <= low && low <= high && high <= deadline
     }
 }

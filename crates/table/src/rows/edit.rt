@@ -1,5 +1,6 @@
 // The edits of a table, and what can be read of it.
-ghost use Rattle.std.specs.Prelude.{◌≡◌, ◌≤◌, T, [], length, Decides};
+ghost use Rattle.std.specs.Prelude.{◌≡◌, ◌+◌, ◌<◌, [], length, IfOk, IfErr, Decides};
+ghost use Rattle.table.specs.declared.fault.Fault.TheVariants.{NoRow};
 ghost use Rattle.table.specs.Rows.{view, Names, Adds, Alters, Removes, Reads};
 
 use super::Table;
@@ -33,22 +34,24 @@ impl Table<Row> {
         &self.rows[0..self.len]
     }
 
-    // Whether there is a row `k`.
-    fn has(&self, k: usize) -> bool
-        ensures row { Decides result (Names (view self.now) k) }
-        ensures place { T result → (1 ≤ k) × (k ≤ self.now.len) }
+    // The place of row `k`, counted from 0.
+    fn place_of(&self, k: usize) -> Result<usize, Fault>
+        ensures named { IfOk result (λ place. (k ≡ place + 1) × (place < self.now.len)) }
+        ensures none { IfErr result (λ fault. (fault ≡ NoRow) × (Names (view self.now) k → ⊥)) }
     {
-        1 <= k && k <= self.len()
+        if 1 <= k && k <= self.len() {
+            Ok(k - 1)
+        } else {
+            Err(Fault::NoRow)
+        }
     }
 
     /// Row `k`.
     pub fn row(&self, k: usize) -> Result<Row, Fault>
         ensures { Reads self.now k result }
     {
-        if !self.has(k) {
-            return Err(Fault::NoRow);
-        }
-        Ok(self.rows[k - 1])
+        let place = self.place_of(k)?;
+        Ok(self.rows[place])
     }
 
     /// Whether both tables have the same rows in the same places.
@@ -75,11 +78,9 @@ impl Table<Row> {
     pub fn alter(&mut self, k: usize, wcet: u32, period: u32, deadline: u32) -> Result<(), Fault>
         ensures { Alters self.old k wcet period deadline result self.new }
     {
-        if !self.has(k) {
-            return Err(Fault::NoRow);
-        }
+        let place = self.place_of(k)?;
         let row = Row::new(wcet, period, deadline)?;
-        *self.row_mut(k - 1) = row;
+        *self.row_mut(place) = row;
         Ok(())
     }
 
@@ -87,10 +88,8 @@ impl Table<Row> {
     pub fn remove(&mut self, k: usize) -> Result<(), Fault>
         ensures { Removes self.old k result self.new }
     {
-        if !self.has(k) {
-            return Err(Fault::NoRow);
-        }
-        self.rows[k - 1..self.len].rotate_left(1);
+        let place = self.place_of(k)?;
+        self.rows[place..self.len].rotate_left(1);
         self.len -= 1;
         Ok(())
     }

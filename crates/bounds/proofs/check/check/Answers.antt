@@ -1,34 +1,35 @@
-use Rattle.std.proofs.Common.{◌≤◌, length, sym, refl, subst, arith, rules}
+use Rattle.std.proofs.Common.{◌≡◌, ◌≤◌, length, Err, sym, refl, ap, ◌∙◌, subst, arith, rules}
 use Rattle.std.proofs.lemmas.List.{length-take}
 use Rattle.std.proofs.lemmas.Bool.{both_ways}
 use Rattle.table.specs.Rows.{view}
-use Rattle.table.proofs.Asked.{met, missed}
-use Rattle.bounds.specs.Orders.{Order, Estimates}
+use Rattle.table.proofs.Asked.{met, missed, asks_map}
+use Rattle.bounds.specs.Orders.{Order, Estimates, FirstMiss}
+use Rattle.bounds.proofs.Handed.{as_handed}
 use Rattle.bounds.proofs.Holding.{miss_when}
 use Rattle.bounds.proofs.check.check.Goals as goal
 
-pub returns-then-not-is_order : goal.returns-then-not-is_order
-returns-then-not-is_order g c =
-    met (search rules)
-    (missed (λ h. both_ways _ c.if-not-is_order.true (c.is_order.ensures.1 (subst (λ n. Order n c.args.order.now) (sym c.len-rows.ensures.rows) h.0))) refl)
+pub returns-in_err-ordered : goal.returns-in_err-ordered
+returns-in_err-ordered g c =
+    let is : c.from_residual.result ≡ Err c.in_err-ordered.field-0.0 = search rules in
+    asks_map (λ e. is ∙ ap Err e) (λ a. missed (λ h. a.1 h.0) (is ∙ ap Err (a.0 a.1))) c.in_err-ordered.ensures.refused
 
 pub returns-then-not-are_estimates : goal.returns-then-not-are_estimates
 returns-then-not-are_estimates g c =
-    met (search rules)
+    met (as_handed (λ t o. 1 ≤ length (view t)) c.in_ok-ordered.ensures.parts c.in_ok-ordered.ordered.some)
     (missed (λ h. both_ways _ c.if-not-are_estimates.true (c.are_estimates.ensures.1 (subst (λ rows. Estimates rows c.args.estimates.now) (sym c.rows.ensures.value) h.1))) refl)
 
 pub first_miss-requires : goal.first_miss-requires
 first_miss-requires g c =
     let estimates = subst (λ rows. Estimates rows c.args.estimates.now) c.rows.ensures.value (c.are_estimates.ensures.0 c.if-not-are_estimates.false) in
-    record {
-      orders = subst (λ n. Order n c.args.order.now) c.len-rows.ensures.rows (c.is_order.ensures.0 c.if-not-is_order.false);
-      size = estimates.size;
-    }
+    estimates.size ∙ sym (ap (λ t. length (view t)) c.in_ok-ordered.ensures.parts.0)
 
 pub returns : goal.returns
 returns g c =
-    let order = subst (λ n. Order n c.args.order.now) c.len-rows.ensures.rows (c.is_order.ensures.0 c.if-not-is_order.false) in
+    let parts = c.in_ok-ordered.ensures.parts in
+    let order = as_handed (λ t o. Order (length (view t)) o) parts c.in_ok-ordered.ordered.each_once in
     let estimates = subst (λ rows. Estimates rows c.args.estimates.now) c.rows.ensures.value (c.are_estimates.ensures.0 c.if-not-are_estimates.false) in
     let rows = view c.args.table.now in
     let few : length rows ≤ 32 = omega (arith, length-take c.args.table.now.len c.args.table.now.rows, c.args.table.now.ok) in
-    met (search rules) (met (order, estimates) (_, refl, c.first_miss.ensures, miss_when g.T.Test.answer c.args.test.now rows c.args.order.now c.args.estimates.now estimates.size few order _ c.first_miss.ensures))
+    let first = as_handed (λ t o. FirstMiss g.T.Test.answer c.args.test.now (view t) o c.args.estimates.now c.first_miss.result) parts c.first_miss.ensures in
+    met (as_handed (λ t o. 1 ≤ length (view t)) parts c.in_ok-ordered.ordered.some)
+    (met (order, estimates) (_, refl, first, miss_when g.T.Test.answer c.args.test.now rows c.args.order.now c.args.estimates.now estimates.size few order _ first))

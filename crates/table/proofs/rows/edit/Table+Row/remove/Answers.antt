@@ -1,12 +1,18 @@
-use Rattle.std.proofs.Common.{◌-◌, refl, rules}
+use Rattle.std.proofs.Common.{refl, ap, ◌∙◌, arith, rules}
 use Rattle.std.proofs.lemmas.List.{places}
+use Rattle.std.specs.List.{remove}
+use Rattle.table.specs.Rows.{view}
 use Rattle.table.proofs.Asked.{met}
 use Rattle.table.proofs.Moves.{turned}
 use Rattle.table.proofs.rows.edit.Table+Row.remove.Goals as goal
 
 pub returns : goal.returns
 returns c =
+    let t = c.args.self.now in
+    let place = c.in_ok-place.place in
+    let at = c.in_ok-place.ensures.named in
     met (search rules) (
       refl,
-      turned (c.args.k - 1) c.args.self.now.len c.args.self.now.rows c.rotate_left.new.self (search rules) (search rules) (search (rules, places)) (λ j d h. c.rotate_left.ensures.by_index.0 j d (search (rules, places))),
+      turned place t.len t.rows c.rotate_left.new.self at.1 (search rules) (search (rules, places)) (λ j d h. c.rotate_left.ensures.by_index.0 j d (search (rules, places)))
+          ∙ ap (remove (view t)) (omega (arith, at.0)),
     )
