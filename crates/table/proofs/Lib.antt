@@ -3,3 +3,4 @@ pub mod Equal
 pub mod Made
 pub mod Moves
 pub mod Placed
+pub mod View

@@ -1,8 +1,8 @@
 use Rattle.std.proofs.Common.{◌≡◌, ◌≤◌, length, Err, sym, refl, ap, ◌∙◌, subst, arith, rules}
-use Rattle.std.proofs.lemmas.List.{length-take}
 use Rattle.std.proofs.lemmas.Bool.{both_ways}
 use Rattle.table.specs.Rows.{view}
 use Rattle.table.proofs.Asked.{met, missed, asks_map}
+use Rattle.table.proofs.View.{few_rows}
 use Rattle.bounds.specs.Orders.{Order, Estimates, FirstMiss}
 use Rattle.bounds.proofs.Handed.{as_handed}
 use Rattle.bounds.proofs.Holding.{miss_when}
@@ -29,7 +29,6 @@ returns g c =
     let order = as_handed (λ t o. Order (length (view t)) o) parts c.in_ok-ordered.ordered.each_once in
     let estimates = subst (λ rows. Estimates rows c.args.estimates.now) c.rows.ensures.value (c.are_estimates.ensures.0 c.if-not-are_estimates.false) in
     let rows = view c.args.table.now in
-    let few : length rows ≤ 32 = omega (arith, length-take c.args.table.now.len c.args.table.now.rows, c.args.table.now.ok) in
     let first = as_handed (λ t o. FirstMiss g.T.Test.answer c.args.test.now (view t) o c.args.estimates.now c.first_miss.result) parts c.first_miss.ensures in
     met (as_handed (λ t o. 1 ≤ length (view t)) parts c.in_ok-ordered.ordered.some)
-    (met (order, estimates) (_, refl, first, miss_when g.T.Test.answer c.args.test.now rows c.args.order.now c.args.estimates.now estimates.size few order _ first))
+    (met (order, estimates) (_, refl, first, miss_when g.T.Test.answer c.args.test.now rows c.args.order.now c.args.estimates.now estimates.size (few_rows c.args.table.now) order _ first))

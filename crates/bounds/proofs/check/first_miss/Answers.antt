@@ -1,13 +1,10 @@
 use Rattle.std.proofs.Common.{get_or, ap, ◌∙◌, arith, rules}
-use Rattle.std.proofs.lemmas.List.{length-take}
 use Rattle.std.proofs.lemmas.Bool.{both_ways}
 use Rattle.table.specs.Rows.{view}
+use Rattle.table.proofs.View.{few_rows}
 use Rattle.bounds.proofs.Meets.{meets_from}
 use Rattle.bounds.proofs.Misses.{met_none, met_more, met_all, miss_found}
 use Rattle.bounds.proofs.check.first_miss.Goals as goal
-
-pub padded-all-requires : goal.padded-all-requires
-padded-all-requires g c = omega (arith, c.requires, length-take c.args.ordered.now.table.now.len c.args.ordered.now.table.now.rows, c.args.ordered.now.table.now.ok)
 
 pub loop-task-init : goal.loop-task-init
 loop-task-init g c = met_none g.T.Test.answer c.args.test.now (view c.args.ordered.now.table.now) c.args.ordered.now.order.now c.args.estimates.now
@@ -28,4 +25,4 @@ returns g c = met_all g.T.Test.answer c.args.test.now (view c.args.ordered.now.t
 pub bounds-above-task : goal.bounds-above-task
 bounds-above-task g c =
     let row = c.args.ordered.now.each_once.rows c.loop-task.task-index (omega (arith, c.args.ordered.now.each_once.size)) in
-    omega (arith, row.1, length-take c.args.ordered.now.table.now.len c.args.ordered.now.table.now.rows, c.args.ordered.now.table.now.ok)
+    omega (arith, row.1, few_rows c.args.ordered.now.table.now)

@@ -1,7 +1,6 @@
-use Rattle.std.proofs.Common.{get_or, rules}
-use Rattle.bounds.proofs.FromFn.{made_at}
+use Rattle.std.proofs.Common.{rules}
 use Rattle.bounds.proofs.Padded.{padded_made}
 use Rattle.bounds.proofs.estimates.padded.Goals as goal
 
 pub returns : goal.returns
-returns c = padded_made c.args.numbers.now c.from_fn.result c.from_fn.ensures.items.long (λ j l. made_at _ _ _ 32 (λ i. get_or c.args.numbers.now i 0) c.from_fn.ensures.items (λ i y q below called. search rules) j 0 l)
+returns c = padded_made _ _ c.args.numbers.now c.from_fn.result c.from_fn.ensures.items (λ i y q below called. search rules)
