@@ -1,5 +1,5 @@
 -- The faults: for each case its number, its layer and its place.
-use Rattle.std.specs.Prelude.{ℕ}
+use Rattle.std.specs.Prelude.{ℕ, List, codes}
 use Rattle.table.specs.declared.fault.Place.{Place}
 use Rattle.table.specs.declared.fault.Layer.{Layer}
 use Rattle.table.specs.declared.fault.Layer.TheVariants as layer
@@ -39,3 +39,13 @@ place_of (BadTest p) = p
 place_of Empty = nowhere
 place_of (BadOrder p) = p
 place_of BadLength = nowhere
+
+-- what it says in words
+abbrev pub words_of : Fault → List ℕ
+words_of Full = codes "the table is full"
+words_of NoRow = codes "there is no such row"
+words_of (BadRow p) = codes "the numbers make no row"
+words_of (BadTest p) = codes "there is no such test"
+words_of Empty = codes "the table is empty"
+words_of (BadOrder p) = codes "the order or its estimates are not right"
+words_of BadLength = codes "the list has another length than the table"

@@ -1,6 +1,9 @@
 // Why a call is refused: the question that it missed.
-ghost use Rattle.std.specs.Prelude.{◌≡◌};
-ghost use Rattle.table.specs.Faults.{number_of, layer_of, place_of};
+ghost use Rattle.std.specs.Prelude.{◌≡◌, Some};
+ghost use Rattle.table.specs.Faults.{number_of, layer_of, place_of, words_of};
+
+use std::error::Error;
+use std::fmt;
 
 /// Where on a sheet a fault lies, all counted from 1; 0 means no sheet, no line, or the whole line.
 #[derive(Clone, Copy, PartialEq, Eq, Debug)]
@@ -27,6 +30,7 @@ pub enum Layer {
     Study,
 }
 
+/// Why a call is refused.
 #[derive(Clone, Copy, PartialEq, Eq, Debug)]
 pub enum Fault {
     /// The table has no place for one more row.
@@ -82,3 +86,22 @@ impl Fault {
         }
     }
 }
+
+/// A fault is said in words. Its number, layer and place are for the program to print.
+impl fmt::Display for Fault {
+    ghost output = { λ fault. Some (words_of fault) };
+
+    fn fmt<W: fmt::Write>(&self, f: &mut fmt::Formatter<W>) -> fmt::Result {
+        f.write_str(match self {
+            Fault::Full => "the table is full",
+            Fault::NoRow => "there is no such row",
+            Fault::BadRow(_) => "the numbers make no row",
+            Fault::BadTest(_) => "there is no such test",
+            Fault::Empty => "the table is empty",
+            Fault::BadOrder(_) => "the order or its estimates are not right",
+            Fault::BadLength => "the list has another length than the table",
+        })
+    }
+}
+
+impl Error for Fault {}
