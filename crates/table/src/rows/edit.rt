@@ -78,9 +78,10 @@ impl Table<Row> {
     pub fn alter(&mut self, k: usize, wcet: u32, period: u32, deadline: u32) -> Result<(), Fault>
         ensures { Alters self.old k wcet period deadline result self.new }
     {
-        let place = self.place_of(k)?;
-        let row = Row::new(wcet, period, deadline)?;
-        *self.row_mut(place) = row;
+        let Some(row) = self.row_mut(k) else {
+            return Err(Fault::NoRow);
+        };
+        *row = Row::new(wcet, period, deadline)?;
         Ok(())
     }
 

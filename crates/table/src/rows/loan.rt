@@ -1,19 +1,24 @@
 // One row of a table, lent to be changed.
-ghost use Rattle.std.specs.Prelude.{◌≡◌, ◌<◌, slice_index_or, slice_set};
-ghost use Rattle.std.specs.Borrow.{sem, follows};
+ghost use Rattle.std.specs.Prelude.{◌≡◌, ◌-◌, ◌≤◌, length, IfSome, IfNone};
+ghost use Rattle.std.specs.Borrow.{sem, LendsIf};
+ghost use Rattle.table.specs.Places.{nth, put};
 ghost use Rattle.table.specs.Rows.{table_type, with_row, view};
 
 use super::Table;
 
 impl<X> Table<X> {
-    /// Lends the row at a place, counted from 0.
-    pub(super) fn row_mut(&mut self, place: usize) -> &mut X
-        requires { place < self.old.len }
-        ensures* follows { sem 𝓛 (follows (table_type X.row) X.row self.entry.ghost_name result.ghost_name (with_row self.old place)) }
-        ensures value { (d : X) → result.now ≡ slice_index_or (view self.old) place d }
-        ensures same { with_row self.old place result.now ≡ self.old }
-        ensures rows { (w : X) → view (with_row self.old place w) ≡ slice_set (view self.old) place w }
+    /// Lends row `k`, if there is one.
+    pub(super) fn row_mut(&mut self, k: usize) -> Option<&mut X>
+        ensures* follows { sem 𝓛 (LendsIf (table_type X.row) X.row self.entry result (with_row self.old (k - 1)) self.old) }
+        ensures value { IfSome result (λ row. (d : X) → row.now ≡ nth (view self.old) k d) }
+        ensures same { IfSome result (λ row. with_row self.old (k - 1) row.now ≡ self.old) }
+        ensures rows { IfSome result (λ _. (w : X) → view (with_row self.old (k - 1) w) ≡ put (view self.old) k w) }
+        ensures named { IfSome result (λ _. (1 ≤ k) × (k ≤ length (view self.old))) }
+        ensures none { IfNone result ((1 ≤ k) × (k ≤ length (view self.old)) → ⊥) }
     {
-        &mut self.rows[place]
+        if k == 0 || k > self.len {
+            return None;
+        }
+        Some(&mut self.rows[k - 1])
     }
 }
