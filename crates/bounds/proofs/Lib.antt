@@ -1,11 +1,15 @@
 pub mod Descents
+pub mod Filled
 pub mod Helds
+pub mod Left
 pub mod Listed
 pub mod Listing
 pub mod Making
 pub mod Misses
 pub mod Padded
 pub mod Picked
+pub mod Places
+pub mod Posing
 pub mod Skips
 pub mod Tallies
 pub mod Wcets
