@@ -1,183 +1,227 @@
 -- The loads that are held in a window stand for its load, and for no more than that of a longer one.
-use Rattle.std.proofs.Common.{◌≡◌, ℕ, ◌+◌, ◌-◌, ◌<◌, ◌≤◌, min, Bool, true, false, cond, List, length, get_or, sym, refl, ap, ◌∙◌, inl, inr, arith}
-use Rattle.std.proofs.lemmas.Bool.{cases_Bool, cond-true, cond-false}
+use Rattle.std.proofs.Common.{◌≡◌, ℕ, zero, suc, ◌+◌, ◌-◌, ◌<◌, ◌≤◌, min, Bool, true, false, cond, List, length, get_or, sym, refl, ap, ◌∙◌, inl, inr, arith}
+use Rattle.std.proofs.lemmas.Bool.{cases_Bool, cases_eq, cond-true, cond-false}
 use Rattle.table.specs.declared.row.Row.{Row}
 use Rattle.table.specs.Places.{nth}
 use Rattle.table.specs.Rows.{row, Names}
 use Rattle.table.proofs.Placed.{nth_next}
-use Rattle.bounds.specs.Questions.{In}
-use Rattle.bounds.specs.Loads.{work, cap_of, carried, plain, sum_to, total_of}
+use Rattle.bounds.specs.declared.posed.Posed.{Posed}
+use Rattle.bounds.specs.Questions.{Sound, In}
+use Rattle.bounds.specs.Posing.{own_row}
+use Rattle.bounds.specs.Loads.{work, cap_of, carried, plain, sum_to, total_of, sum_over}
 use Rattle.bounds.specs.Orders.{wcets}
 use Rattle.bounds.specs.Responses.{Choice, Greatest, carried_loads, plain_load, extra, limited_load}
 use Rattle.bounds.specs.Climbs.{Lists, work_at, Picked, Held, NeverFalls}
 use Rattle.bounds.specs.Greatests.{greatest_is, greatest_one}
-use Rattle.bounds.specs.Sounds.{row_read}
 use Rattle.bounds.specs.Sums.{sum_same, sum_mono, sum_add}
-use Rattle.bounds.proofs.Wcets.{wcets_at}
 use Rattle.bounds.specs.Works.{work_mono, work_le}
+use Rattle.bounds.proofs.Wcets.{wcets_at}
 
--- each estimate lies from its row's C to its D
-abbrev pub Within : List Row → List ℕ → Type 0
-Within rows e = (k : ℕ) → Names rows k → ((row rows k).wcet ≤ nth e k 0) × (nth e k 0 ≤ (row rows k).deadline)
+-- a sum over more places, all 0, is the sum before
+sum_past : (f : ℕ → ℕ) (n m : ℕ) → n ≤ m → ((k : ℕ) → n < k → k ≤ m → f k ≡ 0) → sum_to f m ≡ sum_to f n
+unfolding sum_to
+sum_past f n zero le none = let e : 0 ≡ n = omega arith in ap (sum_to f) e
+sum_past f n (suc m) le none = elim (cases_eq n (suc m)) [ inl e ↦ ap (sum_to f) (sym e) | inr d ↦ omega (arith, sum_past f n m (omega arith) (λ k low high. none k low (omega arith)), none (suc m) (omega arith) (omega arith)) ]
 
-pub wcets_within : (rows : List Row) → length rows ≤ 32 → Within rows (wcets rows)
-wcets_within rows few k h = let is = wcets_at rows k few h in (omega arith, omega (arith, (row rows k).ok))
+module _ (q : Posed) where
+  -- what is above has a row
+  pub above_row : (place : ℕ) → place < 32 → get_or q.above.now place false ≡ true → place < length q.rows.now
+  above_row place h y = let named = q.sound.inside (place + 1) (omega arith) (nth_next q.above.now place false ∙ y) in omega arith
 
--- what is read at a place
-pub estimate_read : (rows : List Row) (e : List ℕ) (place : ℕ) (r : Row) → Within rows e → place < length rows → r ≡ get_or rows place r → (r.wcet ≤ get_or e place 0) × (get_or e place 0 ≤ r.deadline)
-estimate_read rows e place r within l is =
-    let lies = within (place + 1) (omega arith, omega arith) in
-    let c = ap (λ (q : Row). q.wcet) (row_read rows place r l is) in
-    let d = ap (λ (q : Row). q.deadline) (row_read rows place r l is) in
-    let x = nth_next e place 0 in
-    (omega (arith, lies.0), omega (arith, lies.1))
+  module _ (place : ℕ) (r : Row) (at : row q.rows.now (place + 1) ≡ r) (h : place < length q.rows.now) where
+    -- the estimate of the row that is read at a place
+    pub estimate_read : (r.wcet ≤ get_or q.estimates.now place 0) × (get_or q.estimates.now place 0 ≤ 1000000)
+    estimate_read =
+        let names : Names q.rows.now (place + 1) = (omega arith, omega arith) in
+        let x = nth_next q.estimates.now place 0 in
+        (omega (arith, q.sound.low (place + 1) names, ap (λ (j : Row). j.wcet) at), omega (arith, q.sound.high (place + 1) names, (row q.rows.now (place + 1)).ok))
 
-module _ (rows : List Row) (s : List Bool) (e : List ℕ) (l place : ℕ) where
-  pub work_above : (r : Row) (x : ℕ) → place < length rows → r ≡ get_or rows place r → get_or s place false ≡ true → x ≡ work r (l + get_or e place 0 - r.wcet) → x ≡ work_at rows s e l (place + 1)
-  work_above r x h is y xe =
-      xe
-      ∙ ap (λ n. work r (l + n - r.wcet)) (sym (nth_next e place 0))
-      ∙ ap (λ (q : Row). work q (l + nth e (place + 1) 0 - q.wcet)) (sym (row_read rows place r h is))
-      ∙ sym (cond-true (nth s (place + 1) false) _ 0 (nth_next s place false ∙ y))
+    pub work_above : (l : ℕ) → get_or q.above.now place false ≡ true → work r (l + get_or q.estimates.now place 0 - r.wcet) ≡ work_at q l (place + 1)
+    work_above l y =
+        ap (λ n. work r (l + n - r.wcet)) (sym (nth_next q.estimates.now place 0))
+        ∙ ap (λ (j : Row). work j (l + nth q.estimates.now (place + 1) 0 - j.wcet)) (sym at)
+        ∙ sym (cond-true (nth q.above.now (place + 1) false) _ 0 (nth_next q.above.now place false ∙ y))
 
-  pub work_not_above : get_or s place false ≡ false → work_at rows s e l (place + 1) ≡ 0
-  work_not_above z = cond-false (nth s (place + 1) false) _ 0 (nth_next s place false ∙ z)
+  pub work_not_above : (l place : ℕ) → get_or q.above.now place false ≡ false → work_at q l (place + 1) ≡ 0
+  work_not_above l place z = cond-false (nth q.above.now (place + 1) false) _ 0 (nth_next q.above.now place false ∙ z)
 
-module _ (rows : List Row) (i : ℕ) (s : List Bool) (e : List ℕ) (within : Within rows e) (l : ℕ) (held : List ℕ) (lists : Lists (length rows) (work_at rows s e l) held) where
-  -- no load before the cap is longer than the window and a deadline
-  pub works_small : l ≤ 1000000 → (k : ℕ) → 1 ≤ k → k ≤ length rows → nth held k 0 ≤ 2000000
-  works_small short k low high =
-      let lies = within k (low, high) in
-      elim (cases_Bool (nth s k false)) [
-        | inl y ↦ omega (arith, lists k low high, cond-true (nth s k false) (work (row rows k) (l + nth e k 0 - (row rows k).wcet)) 0 y, work_le (row rows k) (l + nth e k 0 - (row rows k).wcet), (row rows k).ok, lies.0, lies.1)
-        | inr z ↦ omega (arith, lists k low high, cond-false (nth s k false) (work (row rows k) (l + nth e k 0 - (row rows k).wcet)) 0 z)
-      ]
+  -- a sum over all places of the tasks above is that over the rows
+  sum_rows : (f : ℕ → ℕ) → sum_over q.above.now f 32 ≡ sum_over q.above.now f (length q.rows.now)
+  sum_rows f = sum_past _ (length q.rows.now) 32 q.sound.few (λ k low high. elim (cases_Bool (nth q.above.now k false)) [
+    | inl y ↦ absurd (omega (arith, q.sound.inside k high y))
+    | inr z ↦ cond-false _ (f k) 0 z
+  ])
 
-  pub held_all : l ≤ 1000000 → Held (carried_loads rows i s e) (row rows i) (length rows) l held
-  held_all short = record {
-    here = sum_same _ _ (length rows) (λ k low high.
-        let w = work (row rows k) (l + nth e k 0 - (row rows k).wcet) in
-        elim (cases_Bool (nth s k false)) [
-          | inl y ↦ omega (arith, lists k low high, cond-true (nth s k false) w 0 y, cond-true (nth s k false) (carried (row rows i) l (row rows k) (nth e k 0)) 0 y)
-          | inr z ↦ omega (arith, lists k low high, cond-false (nth s k false) w 0 z, cond-false (nth s k false) (carried (row rows i) l (row rows k) (nth e k 0)) 0 z)
-        ]);
-    later = λ l' h. sum_mono _ _ (length rows) (λ k low high.
-        let w = work (row rows k) (l + nth e k 0 - (row rows k).wcet) in
-        elim (cases_Bool (nth s k false)) [
-          | inl y ↦ omega (arith, lists k low high, cond-true (nth s k false) w 0 y, cond-true (nth s k false) (carried (row rows i) l' (row rows k) (nth e k 0)) 0 y, work_mono (row rows k) (l + nth e k 0 - (row rows k).wcet) (l' + nth e k 0 - (row rows k).wcet) (omega arith))
-          | inr z ↦ omega (arith, lists k low high, cond-false (nth s k false) w 0 z)
-        ]);
-    small = works_small short;
+  -- the wcets are sound estimates too
+  pub wcets_sound : Sound q.rows.now q.task q.above.now (wcets q.rows.now)
+  wcets_sound = record {
+    few = q.sound.few;
+    names = q.sound.names;
+    inside = q.sound.inside;
+    apart = q.sound.apart;
+    low = λ k h. omega (arith, wcets_at q.rows.now k q.sound.few h);
+    high = λ k h. omega (arith, wcets_at q.rows.now k q.sound.few h, (row q.rows.now k).ok);
   }
 
+  -- the works of a task above, carried and plain, before the cap
+  abbrev full : ℕ → ℕ → ℕ
+  full l k = work (row q.rows.now k) (l + nth q.estimates.now k 0 - (row q.rows.now k).wcet)
+
+  abbrev bare : ℕ → ℕ → ℕ
+  bare l k = work (row q.rows.now k) l
+
+  module _ (l : ℕ) (short : l ≤ 1000000) (held : List ℕ) (lists : Lists (work_at q l) held) where
+    -- no load before the cap is longer than the window and a deadline
+    works_small : (k : ℕ) → 1 ≤ k → k ≤ 32 → nth held k 0 ≤ 2000000
+    works_small k low high =
+        elim (cases_Bool (nth q.above.now k false)) [
+          | inl y ↦
+              let names = q.sound.inside k high y in
+              omega (arith, lists k low high, cond-true (nth q.above.now k false) (full l k) 0 y, work_le (row q.rows.now k) (l + nth q.estimates.now k 0 - (row q.rows.now k).wcet), (row q.rows.now k).ok, q.sound.low k names, q.sound.high k names)
+          | inr z ↦ omega (arith, lists k low high, cond-false (nth q.above.now k false) (full l k) 0 z)
+        ]
+
+    pub held_all : Held (carried_loads q.rows.now q.task q.above.now q.estimates.now) (own_row q) l held
+    held_all =
+        let carry : ℕ → ℕ → ℕ = λ l' k. carried (own_row q) l' (row q.rows.now k) (nth q.estimates.now k 0) in
+        record {
+          here =
+              sum_same _ _ 32 (λ k low high. elim (cases_Bool (nth q.above.now k false)) [
+                | inl y ↦ omega (arith, lists k low high, cond-true (nth q.above.now k false) (full l k) 0 y, cond-true (nth q.above.now k false) (carry l k) 0 y)
+                | inr z ↦ omega (arith, lists k low high, cond-false (nth q.above.now k false) (full l k) 0 z, cond-false (nth q.above.now k false) (carry l k) 0 z)
+              ])
+              ∙ sum_rows (carry l);
+          later = λ l' h.
+              let le = sum_mono (λ k. min (nth held k 0) (cap_of (own_row q) l')) (λ k. cond (nth q.above.now k false) (carry l' k) 0) 32 (λ k low high. elim (cases_Bool (nth q.above.now k false)) [
+                | inl y ↦ omega (arith, lists k low high, cond-true (nth q.above.now k false) (full l k) 0 y, cond-true (nth q.above.now k false) (carry l' k) 0 y, work_mono (row q.rows.now k) (l + nth q.estimates.now k 0 - (row q.rows.now k).wcet) (l' + nth q.estimates.now k 0 - (row q.rows.now k).wcet) (omega arith))
+                | inr z ↦ omega (arith, lists k low high, cond-false (nth q.above.now k false) (full l k) 0 z)
+              ]) in
+              omega (arith, le, sum_rows (carry l'));
+          small = works_small;
+        }
+
 -- At most c tasks carry load in: the chosen ones.
-module _ (rows : List Row) (i : ℕ) (s : List Bool) (e : List ℕ) (few : length rows ≤ 32) (within : Within rows e) (c l : ℕ) (low : (row rows i).wcet ≤ l) (short : l ≤ 1000000)
-    (with' without : List ℕ) (extras : List ℕ) (chosen : List Bool) (held : List ℕ)
-    (carries : Lists (length rows) (work_at rows s e l) with')
-    (plains : Lists (length rows) (work_at rows s (wcets rows) l) without)
-    (gains : Lists (length rows) (λ k. min (nth with' k 0) (cap_of (row rows i) l) - min (nth without k 0) (cap_of (row rows i) l)) extras)
-    (picked : Picked extras (length rows) c chosen)
-    (mixes : Lists (length rows) (λ k. cond (nth chosen k false) (nth with' k 0) (nth without k 0)) held) where
+module _ (q : Posed) (c l : ℕ) (low : (own_row q).wcet ≤ l) (short : l ≤ 1000000)
+    (with' without extras : List ℕ) (chosen : List Bool) (held costs : List ℕ) (cost : costs ≡ wcets q.rows.now)
+    (carries : Lists (work_at q l) with')
+    (plains : Lists (λ k. cond (nth q.above.now k false) (work (row q.rows.now k) (l + nth costs k 0 - (row q.rows.now k).wcet)) 0) without)
+    (gains : Lists (λ k. min (nth with' k 0) (cap_of (own_row q) l) - min (nth without k 0) (cap_of (own_row q) l)) extras)
+    (picked : Picked extras c chosen)
+    (mixes : Lists (λ k. cond (nth chosen k false) (nth with' k 0) (nth without k 0)) held) where
   abbrev is_chosen : ℕ → Bool
   is_chosen k = nth chosen k false
 
-  -- the loads of a task above, carried and plain, before the cap
-  abbrev full : ℕ → ℕ → ℕ
-  full l' k = work (row rows k) (l' + nth e k 0 - (row rows k).wcet)
+  abbrev above : ℕ → Bool
+  above k = nth q.above.now k false
 
-  abbrev bare : ℕ → ℕ → ℕ
-  bare l' k = work (row rows k) l'
+  abbrev plain_part : ℕ → ℕ → ℕ
+  plain_part l' k = plain (own_row q) l' (row q.rows.now k)
 
-  carry_at : (k : ℕ) → 1 ≤ k → k ≤ length rows → In s k → nth with' k 0 ≡ full l k
-  carry_at k a b y = carries k a b ∙ cond-true (nth s k false) (full l k) 0 y
+  abbrev gain : ℕ → ℕ → ℕ
+  gain = extra q.rows.now q.task q.estimates.now
 
-  plain_at : (k : ℕ) → 1 ≤ k → k ≤ length rows → In s k → nth without k 0 ≡ bare l k
+  carry_at : (k : ℕ) → 1 ≤ k → k ≤ 32 → In q.above.now k → nth with' k 0 ≡ full q l k
+  carry_at k a b y = carries k a b ∙ cond-true (above k) (full q l k) 0 y
+
+  plain_at : (k : ℕ) → 1 ≤ k → k ≤ 32 → In q.above.now k → nth without k 0 ≡ bare q l k
   plain_at k a b y =
-      plains k a b ∙ cond-true (nth s k false) (work (row rows k) (l + nth (wcets rows) k 0 - (row rows k).wcet)) 0 y
-      ∙ ap (work (row rows k)) (let is = wcets_at rows k few (a, b) in omega arith)
+      plains k a b ∙ cond-true (above k) (work (row q.rows.now k) (l + nth costs k 0 - (row q.rows.now k).wcet)) 0 y
+      ∙ ap (work (row q.rows.now k)) (let is = wcets_at q.rows.now k q.sound.few (q.sound.inside k b y) in omega (arith, ap (λ w. nth w k 0) cost))
 
   -- a task that is not above has no load
-  carry_out : (k : ℕ) → 1 ≤ k → k ≤ length rows → nth s k false ≡ false → nth with' k 0 ≡ 0
-  carry_out k a b z = carries k a b ∙ cond-false (nth s k false) (full l k) 0 z
+  carry_out : (k : ℕ) → 1 ≤ k → k ≤ 32 → above k ≡ false → nth with' k 0 ≡ 0
+  carry_out k a b z = carries k a b ∙ cond-false (above k) (full q l k) 0 z
 
-  plain_out : (k : ℕ) → 1 ≤ k → k ≤ length rows → nth s k false ≡ false → nth without k 0 ≡ 0
-  plain_out k a b z = plains k a b ∙ cond-false (nth s k false) (work (row rows k) (l + nth (wcets rows) k 0 - (row rows k).wcet)) 0 z
+  plain_out : (k : ℕ) → 1 ≤ k → k ≤ 32 → above k ≡ false → nth without k 0 ≡ 0
+  plain_out k a b z = plains k a b ∙ cond-false (above k) (work (row q.rows.now k) (l + nth costs k 0 - (row q.rows.now k).wcet)) 0 z
 
   -- to carry load in is never less
-  more_carried : (l' k : ℕ) → 1 ≤ k → k ≤ length rows → bare l' k ≤ full l' k
-  more_carried l' k a b = let lies = within k (a, b) in work_mono (row rows k) l' (l' + nth e k 0 - (row rows k).wcet) (omega (arith, lies.0))
+  more_carried : (l' k : ℕ) → k ≤ 32 → In q.above.now k → bare q l' k ≤ full q l' k
+  more_carried l' k b y = work_mono (row q.rows.now k) l' (l' + nth q.estimates.now k 0 - (row q.rows.now k).wcet) (omega (arith, q.sound.low k (q.sound.inside k b y)))
 
-  chosen_above : (k : ℕ) → is_chosen k ≡ true → (1 ≤ k) × (k ≤ length rows) × In s k
+  chosen_above : (k : ℕ) → is_chosen k ≡ true → (1 ≤ k) × (k ≤ 32) × In q.above.now k
   chosen_above k y =
       let is = picked.positive k y in
-      (is.0, is.1, elim (cases_Bool (nth s k false)) [ inl above ↦ above | inr z ↦ absurd (omega (arith, is.2, gains k is.0 is.1, carry_out k is.0 is.1 z)) ])
+      (is.0, is.1, elim (cases_Bool (above k)) [ inl yes' ↦ yes' | inr z ↦ absurd (omega (arith, is.2, gains k is.0 is.1, carry_out k is.0 is.1 z)) ])
 
-  choice : Choice s c (length rows) is_chosen
-  choice = record { inside = λ k y. (chosen_above k y).2; few = picked.few }
+  -- a total over tasks above is that over the rows
+  total_rows : (p : ℕ → Bool) → ((k : ℕ) → p k ≡ true → In q.above.now k) → (f : ℕ → ℕ) → total_of p f 32 ≡ total_of p f (length q.rows.now)
+  total_rows p inside f = sum_past _ (length q.rows.now) 32 q.sound.few (λ k a b. elim (cases_Bool (p k)) [
+    | inl y ↦ absurd (omega (arith, q.sound.inside k b (inside k y)))
+    | inr z ↦ cond-false (p k) (f k) 0 z
+  ])
 
-  gain_at : (k : ℕ) → 1 ≤ k → k ≤ length rows → In s k → nth extras k 0 ≡ extra rows i e l k
+  choice : Choice q.above.now c (length q.rows.now) is_chosen
+  choice = record { inside = λ k y. (chosen_above k y).2; few = omega (arith, picked.few, total_rows is_chosen (λ k y. (chosen_above k y).2) (λ _. 1)) }
+
+  gain_at : (k : ℕ) → 1 ≤ k → k ≤ 32 → In q.above.now k → nth extras k 0 ≡ gain l k
   gain_at k a b y = omega (arith, gains k a b, carry_at k a b y, plain_at k a b y)
 
   -- the chosen tasks gain the most
-  gain_same : (q : ℕ → Bool) → ((k : ℕ) → q k ≡ true → In s k) → total_of q (λ k. nth extras k 0) (length rows) ≡ total_of q (extra rows i e l) (length rows)
-  gain_same q inside = sum_same _ _ (length rows) (λ k a b. elim (cases_Bool (q k)) [
-    | inl y ↦ cond-true (q k) (nth extras k 0) 0 y ∙ gain_at k a b (inside k y) ∙ sym (cond-true (q k) (extra rows i e l k) 0 y)
-    | inr z ↦ cond-false (q k) (nth extras k 0) 0 z ∙ sym (cond-false (q k) (extra rows i e l k) 0 z)
-  ])
+  gain_same : (p : ℕ → Bool) → ((k : ℕ) → p k ≡ true → In q.above.now k) → total_of p (λ k. nth extras k 0) 32 ≡ total_of p (gain l) (length q.rows.now)
+  gain_same p inside =
+      sum_same _ _ 32 (λ k a b. elim (cases_Bool (p k)) [
+        | inl y ↦ cond-true (p k) (nth extras k 0) 0 y ∙ gain_at k a b (inside k y) ∙ sym (cond-true (p k) (gain l k) 0 y)
+        | inr z ↦ cond-false (p k) (nth extras k 0) 0 z ∙ sym (cond-false (p k) (gain l k) 0 z)
+      ])
+      ∙ total_rows p inside (gain l)
 
-  gain_greatest : Greatest s (extra rows i e l) c (length rows) (total_of is_chosen (extra rows i e l) (length rows))
+  gain_greatest : Greatest q.above.now (gain l) c (length q.rows.now) (total_of is_chosen (gain l) (length q.rows.now))
   gain_greatest = record {
     reached = (is_chosen, choice, refl);
-    exceeded = λ q h. omega (arith, picked.best q h.few, gain_same q h.inside, gain_same is_chosen choice.inside);
+    exceeded = λ p h. omega (arith, picked.best p (omega (arith, h.few, total_rows p h.inside (λ _. 1))), gain_same p h.inside, gain_same is_chosen choice.inside);
   }
 
   -- a held load in a window, and in a longer one
   part : (l' k : ℕ) → ℕ
-  part l' k = cond (nth s k false) (plain (row rows i) l' (row rows k)) 0 + cond (is_chosen k) (extra rows i e l' k) 0
+  part l' k = cond (above k) (plain_part l' k) 0 + cond (is_chosen k) (gain l' k) 0
 
-  part_later : (l' : ℕ) → l ≤ l' → (k : ℕ) → 1 ≤ k → k ≤ length rows → min (nth held k 0) (cap_of (row rows i) l') ≤ part l' k
+  part_later : (l' : ℕ) → l ≤ l' → (k : ℕ) → 1 ≤ k → k ≤ 32 → min (nth held k 0) (cap_of (own_row q) l') ≤ part l' k
   unfolding part
   part_later l' h k a b =
       elim (cases_Bool (is_chosen k)) [
         | inl y ↦
-            let above = (chosen_above k y).2 in
-            omega (arith, mixes k a b, cond-true (is_chosen k) (nth with' k 0) (nth without k 0) y, carry_at k a b above, cond-true (nth s k false) (plain (row rows i) l' (row rows k)) 0 above, cond-true (is_chosen k) (extra rows i e l' k) 0 y, work_mono (row rows k) (l + nth e k 0 - (row rows k).wcet) (l' + nth e k 0 - (row rows k).wcet) (omega arith), more_carried l' k a b)
-        | inr z ↦ elim (cases_Bool (nth s k false)) [
-          | inl above ↦ omega (arith, mixes k a b, cond-false (is_chosen k) (nth with' k 0) (nth without k 0) z, plain_at k a b above, cond-true (nth s k false) (plain (row rows i) l' (row rows k)) 0 above, work_mono (row rows k) l l' h)
+            let up = (chosen_above k y).2 in
+            omega (arith, mixes k a b, cond-true (is_chosen k) (nth with' k 0) (nth without k 0) y, carry_at k a b up, cond-true (above k) (plain_part l' k) 0 up, cond-true (is_chosen k) (gain l' k) 0 y, work_mono (row q.rows.now k) (l + nth q.estimates.now k 0 - (row q.rows.now k).wcet) (l' + nth q.estimates.now k 0 - (row q.rows.now k).wcet) (omega arith), more_carried l' k b up)
+        | inr z ↦ elim (cases_Bool (above k)) [
+          | inl up ↦ omega (arith, mixes k a b, cond-false (is_chosen k) (nth with' k 0) (nth without k 0) z, plain_at k a b up, cond-true (above k) (plain_part l' k) 0 up, work_mono (row q.rows.now k) l l' h)
           | inr out ↦ omega (arith, mixes k a b, cond-false (is_chosen k) (nth with' k 0) (nth without k 0) z, plain_out k a b out)
         ]
       ]
 
-  part_here : (k : ℕ) → 1 ≤ k → k ≤ length rows → part l k ≤ min (nth held k 0) (cap_of (row rows i) l)
+  part_here : (k : ℕ) → 1 ≤ k → k ≤ 32 → part l k ≤ min (nth held k 0) (cap_of (own_row q) l)
   unfolding part
   part_here k a b =
       elim (cases_Bool (is_chosen k)) [
         | inl y ↦
-            let above = (chosen_above k y).2 in
-            omega (arith, mixes k a b, cond-true (is_chosen k) (nth with' k 0) (nth without k 0) y, carry_at k a b above, cond-true (nth s k false) (plain (row rows i) l (row rows k)) 0 above, cond-true (is_chosen k) (extra rows i e l k) 0 y, more_carried l k a b)
-        | inr z ↦ elim (cases_Bool (nth s k false)) [
-          | inl above ↦ omega (arith, mixes k a b, cond-false (is_chosen k) (nth with' k 0) (nth without k 0) z, plain_at k a b above, cond-true (nth s k false) (plain (row rows i) l (row rows k)) 0 above, cond-false (is_chosen k) (extra rows i e l k) 0 z)
-          | inr out ↦ omega (arith, cond-false (nth s k false) (plain (row rows i) l (row rows k)) 0 out, cond-false (is_chosen k) (extra rows i e l k) 0 z)
+            let up = (chosen_above k y).2 in
+            omega (arith, mixes k a b, cond-true (is_chosen k) (nth with' k 0) (nth without k 0) y, carry_at k a b up, cond-true (above k) (plain_part l k) 0 up, cond-true (is_chosen k) (gain l k) 0 y, more_carried l k b up)
+        | inr z ↦ elim (cases_Bool (above k)) [
+          | inl up ↦ omega (arith, mixes k a b, cond-false (is_chosen k) (nth with' k 0) (nth without k 0) z, plain_at k a b up, cond-true (above k) (plain_part l k) 0 up, cond-false (is_chosen k) (gain l k) 0 z)
+          | inr out ↦ omega (arith, cond-false (above k) (plain_part l k) 0 out, cond-false (is_chosen k) (gain l k) 0 z)
         ]
       ]
 
-  parts : (l' : ℕ) → sum_to (part l') (length rows) ≡ plain_load rows i s l' + total_of is_chosen (extra rows i e l') (length rows)
+  parts : (l' : ℕ) → sum_to (part l') 32 ≡ plain_load q.rows.now q.task q.above.now l' + total_of is_chosen (gain l') (length q.rows.now)
   unfolding part
-  parts l' = sum_add (λ k. cond (nth s k false) (plain (row rows i) l' (row rows k)) 0) (λ k. cond (is_chosen k) (extra rows i e l' k) 0) (length rows)
+  parts l' = omega (arith, sum_add (λ k. cond (above k) (plain_part l' k) 0) (λ k. cond (is_chosen k) (gain l' k) 0) 32, sum_rows q (plain_part l'), total_rows is_chosen choice.inside (gain l'))
 
-  pub held_limited : Held (limited_load c rows i s e) (row rows i) (length rows) l held
+  pub held_limited : Held (limited_load c q.rows.now q.task q.above.now q.estimates.now) (own_row q) l held
   held_limited = record {
     here =
-        let most = greatest_one s (extra rows i e l) c (length rows) _ _ gain_greatest (greatest_is s (extra rows i e l) c (length rows)) in
-        omega (arith, sum_mono (λ k. min (nth held k 0) (cap_of (row rows i) l)) (part l) (length rows) (part_later l (omega arith)), sum_mono (part l) (λ k. min (nth held k 0) (cap_of (row rows i) l)) (length rows) part_here, parts l, most);
+        let most = greatest_one q.above.now (gain l) c (length q.rows.now) _ _ gain_greatest (greatest_is q.above.now (gain l) c (length q.rows.now)) in
+        omega (arith, sum_mono (λ k. min (nth held k 0) (cap_of (own_row q) l)) (part l) 32 (part_later l (omega arith)), sum_mono (part l) (λ k. min (nth held k 0) (cap_of (own_row q) l)) 32 part_here, parts l, most);
     later = λ l' h.
-        omega (arith, sum_mono (λ k. min (nth held k 0) (cap_of (row rows i) l')) (part l') (length rows) (part_later l' h), parts l', (greatest_is s (extra rows i e l') c (length rows)).exceeded is_chosen choice);
+        omega (arith, sum_mono (λ k. min (nth held k 0) (cap_of (own_row q) l')) (part l') 32 (part_later l' h), parts l', (greatest_is q.above.now (gain l') c (length q.rows.now)).exceeded is_chosen choice);
     small = λ k a b. elim (cases_Bool (is_chosen k)) [
-      | inl y ↦ omega (arith, mixes k a b, cond-true (is_chosen k) (nth with' k 0) (nth without k 0) y, works_small rows i s e within l with' carries short k a b)
-      | inr z ↦ omega (arith, mixes k a b, cond-false (is_chosen k) (nth with' k 0) (nth without k 0) z, works_small rows i s (wcets rows) (wcets_within rows few) l without plains short k a b)
+      | inl y ↦ omega (arith, mixes k a b, cond-true (is_chosen k) (nth with' k 0) (nth without k 0) y, works_small q l short with' carries k a b)
+      | inr z ↦ elim (cases_Bool (above k)) [
+        | inl up ↦ omega (arith, mixes k a b, cond-false (is_chosen k) (nth with' k 0) (nth without k 0) z, plain_at k a b up, work_le (row q.rows.now k) l)
+        | inr out ↦ omega (arith, mixes k a b, cond-false (is_chosen k) (nth with' k 0) (nth without k 0) z, plain_out k a b out)
+      ]
     ];
   }
 
 -- what holds the load of a window shows that a longer one has no less, whoever carries load in
-pub never_falls : (load : ℕ → ℕ) (i : Row) (n l : ℕ) (held : List ℕ) → Held load i n l held → NeverFalls load l
-never_falls load i n l held h l' le = omega (arith, h.here, h.later l' le, sum_mono (λ k. min (nth held k 0) (cap_of i l)) (λ k. min (nth held k 0) (cap_of i l')) n (λ k low high. omega arith))
+pub never_falls : (load : ℕ → ℕ) (i : Row) (l : ℕ) (held : List ℕ) → Held load i l held → NeverFalls load l
+never_falls load i l held h l' le = omega (arith, h.here, h.later l' le, sum_mono (λ k. min (nth held k 0) (cap_of i l)) (λ k. min (nth held k 0) (cap_of i l')) 32 (λ k low high. omega arith))

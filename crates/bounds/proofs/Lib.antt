@@ -1,13 +1,16 @@
 pub mod Descents
-pub mod FromFn
 pub mod Handed
+pub mod Filled
 pub mod Helds
+pub mod Left
 pub mod Listed
 pub mod Making
 pub mod Meets
 pub mod Misses
 pub mod Padded
 pub mod Picked
+pub mod Places
+pub mod Posing
 pub mod Skips
 pub mod Spans
 pub mod Tallies

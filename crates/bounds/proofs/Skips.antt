@@ -1,5 +1,5 @@
 -- The climb skips no window that fits.
-use Rattle.std.proofs.Common.{◌≡◌, ℕ, ◌+◌, ◌-◌, ◌*◌, ◌/◌, ◌<◌, ◌≤◌, min, Bool, true, false, cond, eqb, ltb, leb, List, Some, None, sym, ap, ◌∙◌, subst, inl, inr, mul-le-mul_right, mul_comm, add-mul, div-mul-le_self, arith}
+use Rattle.std.proofs.Common.{◌≡◌, ℕ, ◌+◌, ◌-◌, ◌*◌, ◌/◌, ◌<◌, ◌≤◌, min, Bool, true, false, cond, ltb, leb, List, Option, Some, None, sym, ap, ◌∙◌, subst, inl, inr, mul-le-mul_right, mul_comm, add-mul, div-mul-le_self, arith}
 use Rattle.std.proofs.lemmas.Nat.{div_below, le-div}
 use Rattle.std.proofs.lemmas.Bool.{cases_Bool, cases_lt, cond-true, cond-false, ltb-true, ltb-false, leb-true, leb-false, le-leb, lt-leb}
 use Rattle.table.specs.declared.row.Row.{Row}
@@ -7,7 +7,7 @@ use Rattle.table.specs.Places.{nth}
 use Rattle.bounds.specs.declared.tally.Tally.{Tally}
 use Rattle.bounds.specs.Loads.{cap_of}
 use Rattle.bounds.specs.Responses.{least_fit}
-use Rattle.bounds.specs.Climbs.{held_to, Held, Tallied, jump, next_cap}
+use Rattle.bounds.specs.Climbs.{held_to, Held, LeastOver, Tallied, jump, next_cap}
 use Rattle.bounds.specs.Leasts.{least_found, least_missing}
 use Rattle.bounds.specs.Sums.{sum_mono, sum_add, total_constant}
 
@@ -15,60 +15,57 @@ use Rattle.bounds.specs.Sums.{sum_mono, sum_add, total_constant}
 below_div : (x d y : ℕ) → y ≤ x / d → d * y ≤ x
 below_div x d y h = omega (arith, mul-le-mul_right {m = y} {n = x / d} d h, div-mul-le_self x d, mul_comm d y)
 
-module _ (held : List ℕ) (n y : ℕ) (t : Tally) (tallied : Tallied held n y t) where
+module _ (held : List ℕ) (y : ℕ) (t : Tally) (tallied : Tallied held 32 y t) where
   abbrev big : ℕ → Bool
   big k = ltb y (nth held k 0)
 
-  rises : (z : ℕ) → y ≤ z → held_to held n y ≤ held_to held n z
-  rises z h = sum_mono _ _ n (λ k low high. omega arith)
+  rises : (z : ℕ) → y ≤ z → held_to held 32 y ≤ held_to held 32 z
+  rises z h = sum_mono _ _ 32 (λ k low high. omega arith)
 
   -- the loads that are at most y are all there at a higher cap
-  rest_le : (z : ℕ) → y ≤ z → t.rest ≤ held_to held n z
+  rest_le : (z : ℕ) → y ≤ z → t.rest ≤ held_to held 32 z
   rest_le z h =
       omega (
         arith,
         tallied.rest,
-        sum_mono (λ k. cond (big k) 0 (nth held k 0)) (λ k. min (nth held k 0) z) n (λ k low high. elim (cases_Bool (big k)) [
+        sum_mono (λ k. cond (big k) 0 (nth held k 0)) (λ k. min (nth held k 0) z) 32 (λ k low high. elim (cases_Bool (big k)) [
           | inl b ↦ omega (arith, cond-true (big k) 0 (nth held k 0) b)
           | inr s ↦ omega (arith, cond-false (big k) 0 (nth held k 0) s, ltb-false y (nth held k 0) s)
         ]),
       )
 
-  -- up to the least of the others, each of those is at the cap
-  split : (z : ℕ) → y ≤ z → z ≤ t.least → t.over * z + t.rest ≤ held_to held n z
-  split z h le =
-      let parts = sum_mono (λ k. cond (big k) z 0 + cond (big k) 0 (nth held k 0)) (λ k. min (nth held k 0) z) n (λ k low high. elim (cases_Bool (big k)) [
-        | inl b ↦ omega (arith, cond-true (big k) 0 (nth held k 0) b, cond-true (big k) z 0 b, tallied.least k low high (ltb-true y (nth held k 0) b))
+  -- up to a number that each of the others is at least, each of those is at the cap
+  split : (b z : ℕ) → LeastOver held 32 y (Some b) → y ≤ z → z ≤ b → t.over * z + t.rest ≤ held_to held 32 z
+  split b z least h le =
+      let parts = sum_mono (λ k. cond (big k) z 0 + cond (big k) 0 (nth held k 0)) (λ k. min (nth held k 0) z) 32 (λ k low high. elim (cases_Bool (big k)) [
+        | inl y ↦ omega (arith, cond-true (big k) 0 (nth held k 0) y, cond-true (big k) z 0 y, least k low high (ltb-true _ (nth held k 0) y))
         | inr s ↦ omega (arith, cond-false (big k) 0 (nth held k 0) s, cond-false (big k) z 0 s, ltb-false y (nth held k 0) s)
       ]) in
-      omega (arith, parts, sum_add (λ k. cond (big k) z 0) (λ k. cond (big k) 0 (nth held k 0)) n, total_constant big z n, ap (λ o. o * z) tallied.over, tallied.rest)
+      omega (arith, parts, sum_add (λ k. cond (big k) z 0) (λ k. cond (big k) 0 (nth held k 0)) 32, total_constant big z 32, ap (λ o. o * z) tallied.over, tallied.rest)
+
+  -- no cap from y on that the loads above the cap and the rest rule out can do
+  jumps : (m z : ℕ) (least : Option ℕ) → 0 < m → LeastOver held 32 y least → y ≤ z → z < jump (record t { least = least }) m → m * z ≤ held_to held 32 z
+  jumps m z None pos none h lt = omega (arith, below_div t.rest m z (omega arith), rest_le z h)
+  jumps m z (Some b) pos least h lt =
+      let many = leb m t.over in
+      let both = min (t.rest / (m - t.over) + 1) (b + 1) in
+      elim (cases_Bool many) [
+        | inl yes' ↦
+            let is = cond-true many (b + 1) both yes' in
+            omega (arith, split b z least h (omega arith), mul-le-mul_right {m = m} {n = t.over} z (leb-true m t.over yes'))
+        | inr no' ↦
+            let is = cond-false many (b + 1) both no' in
+            let fewer = leb-false m t.over no' in
+            let sum : m ≡ t.over + (m - t.over) = omega arith in
+            omega (arith, below_div t.rest (m - t.over) z (omega arith), split b z least h (omega arith), ap (λ k. k * z) sum, add-mul t.over (m - t.over) z)
+      ]
 
   -- no cap from y on and below the next one can do
-  pub skips : (m z : ℕ) → 0 < m → y ≤ z → z < next_cap t m → m * z ≤ held_to held n z
+  pub skips : (m z : ℕ) → 0 < m → y ≤ z → z < next_cap t m → m * z ≤ held_to held 32 z
   skips m z pos h lt =
       elim (cases_lt z (t.sum / m + 1)) [
         | inl near ↦ omega (arith, below_div t.sum m z (omega arith), tallied.sum, rises z h)
-        | inr far ↦
-            let jumps : z < jump t m = omega arith in
-            let many = leb m t.over in
-            let rest = cond (eqb t.over 0) (t.rest / m + 1) (min (t.rest / (m - t.over) + 1) (t.least + 1)) in
-            elim (cases_Bool many) [
-              | inl b ↦
-                  let is = cond-true many (t.least + 1) rest b in
-                  omega (arith, split z h (omega arith), mul-le-mul_right {m = m} {n = t.over} z (leb-true m t.over b))
-              | inr s ↦
-                  let is = cond-false many (t.least + 1) rest s in
-                  let fewer = leb-false m t.over s in
-                  elim (cases_Bool (eqb t.over 0)) [
-                    | inl none ↦
-                        let all = cond-true (eqb t.over 0) (t.rest / m + 1) (min (t.rest / (m - t.over) + 1) (t.least + 1)) none in
-                        omega (arith, below_div t.rest m z (omega arith), rest_le z h)
-                    | inr some ↦
-                        let both = cond-false (eqb t.over 0) (t.rest / m + 1) (min (t.rest / (m - t.over) + 1) (t.least + 1)) some in
-                        let sum : m ≡ t.over + (m - t.over) = omega arith in
-                        omega (arith, below_div t.rest (m - t.over) z (omega arith), split z h (omega arith), ap (λ k. k * z) sum, add-mul t.over (m - t.over) z)
-                  ]
-            ]
+        | inr far ↦ jumps m z t.least pos tallied.least h (omega arith)
       ]
 
   pub next_higher : (m : ℕ) → 0 < m → m * y ≤ t.sum → y < next_cap t m
@@ -97,24 +94,24 @@ module _ (m : ℕ) (pos : 0 < m) (i : Row) (load : ℕ → ℕ) (y : ℕ) (from 
   pub passed_all : cap_of i i.deadline < y → least_fit m i load ≡ None
   passed_all past = least_missing _ i.wcet (i.deadline - i.wcet + 1) (λ l low high. passed l low (omega (arith, i.ok)))
 
-  pub passed_more : (held : List ℕ) (n : ℕ) (t : Tally) → Held load i n (i.wcet + y - 1) held → Tallied held n y t → Passed m i load (next_cap t m)
-  passed_more held n t holds tallied l low high =
+  pub passed_more : (held : List ℕ) (t : Tally) → Held load i (i.wcet + y - 1) held → Tallied held 32 y t → Passed m i load (next_cap t m)
+  passed_more held t holds tallied l low high =
       elim (cases_lt (cap_of i l) y) [
         | inl before ↦ passed l low before
-        | inr after ↦ misses_above m pos i load l low (omega (arith, skips held n y t tallied m (cap_of i l) pos after high, holds.later l (omega arith)))
+        | inr after ↦ misses_above m pos i load l low (omega (arith, skips held y t tallied m (cap_of i l) pos after high, holds.later l (omega arith)))
       ]
 
   -- what a turn of the climb shows, by the wcet that was read
-  module _ (wcet : ℕ) (we : wcet ≡ i.wcet) (held : List ℕ) (n : ℕ) (t : Tally) (holds : Held load i n (wcet + y - 1) held) (tallied : Tallied held n y t) where
-    holds_here : Held load i n (i.wcet + y - 1) held
-    holds_here = subst (λ w. Held load i n (w + y - 1) held) we holds
+  module _ (wcet : ℕ) (we : wcet ≡ i.wcet) (held : List ℕ) (t : Tally) (holds : Held load i (wcet + y - 1) held) (tallied : Tallied held 32 y t) where
+    holds_here : Held load i (i.wcet + y - 1) held
+    holds_here = subst (λ w. Held load i (w + y - 1) held) we holds
 
     pub turn_found : y ≤ cap_of i i.deadline → t.sum < m * y → Some (wcet + y - 1) ≡ least_fit m i load
     turn_found in' h =
         let l = i.wcet + y - 1 in
         let cap : cap_of i l ≡ y = omega arith in
-        let sum : load l ≡ t.sum = sym holds_here.here ∙ ap (held_to held n) cap ∙ sym tallied.sum in
+        let sum : load l ≡ t.sum = sym holds_here.here ∙ ap (held_to held 32) cap ∙ sym tallied.sum in
         ap (λ w. Some (w + y - 1)) we ∙ sym (climbed in' (omega (arith, sum, h)))
 
     pub turn_passed : Passed m i load (next_cap t m)
-    turn_passed = passed_more held n t holds_here tallied
+    turn_passed = passed_more held t holds_here tallied

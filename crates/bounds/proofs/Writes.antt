@@ -1,9 +1,7 @@
 -- A list by row of which the first p places are written.
-use Rattle.std.proofs.Common.{◌≡◌, ℕ, ◌+◌, ◌-◌, ◌<◌, ◌≤◌, List, length, get_or, set, replicate, sym, ap, ◌∙◌, inl, inr, arith}
+use Rattle.std.proofs.Common.{◌≡◌, ℕ, ◌+◌, ◌<◌, ◌≤◌, List, length, get_or, set, replicate, sym, ap, ◌∙◌, inl, inr, arith}
 use Rattle.std.proofs.lemmas.List.{get_or-set_same, get_or-set_other, get_or-replicate, length-replicate, length-set}
 use Rattle.std.proofs.lemmas.Bool.{cases_eq}
-use Rattle.table.proofs.Placed.{nth_at}
-use Rattle.bounds.specs.Climbs.{Lists}
 
 -- f of the first p rows stands in its place, and 0 behind
 pub record Written (f : ℕ → ℕ) (xs : List ℕ) (p : ℕ) : Type 0 where
@@ -39,6 +37,3 @@ module _ (f : ℕ → ℕ) (xs : List ℕ) (p : ℕ) (w : Written f xs p) (l : p
     ];
     rest = λ j m n. w.rest j (omega arith) n;
   }
-
-pub written_all : (f : ℕ → ℕ) (xs : List ℕ) (p n : ℕ) → Written f xs p → p ≡ n → Lists n f xs
-written_all f xs p n w end k low high = nth_at xs k 0 low ∙ w.done (k - 1) (omega arith) ∙ ap f (omega arith)

@@ -1,5 +1,6 @@
 pub mod Questions
 pub mod Loads
+pub mod Posing
 pub mod Made
 pub mod Orders
 pub mod Responses

@@ -1,7 +1,6 @@
 #![tactic(auto)]
 
 pub mod analyse;
-mod carry;
 pub mod check;
 mod climb;
 pub mod da;
@@ -14,6 +13,7 @@ pub mod named;
 mod ordered;
 pub mod overhead;
 mod picks;
+mod posed;
 pub mod processors;
 pub mod question;
 pub mod rta;

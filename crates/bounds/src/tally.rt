@@ -5,8 +5,8 @@ pub(crate) struct Tally {
     pub sum: u32,
     /// How many are above the cap.
     pub over: u32,
-    /// The least of those.
-    pub least: u32,
+    /// The least of those, if there are any.
+    pub least: Option<u32>,
     /// The sum of the others.
     pub rest: u32,
 }

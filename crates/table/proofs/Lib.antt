@@ -1,5 +1,6 @@
 pub mod Asked
 pub mod Equal
+pub mod FromFn
 pub mod Made
 pub mod Moves
 pub mod Placed

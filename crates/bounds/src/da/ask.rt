@@ -1,18 +1,16 @@
 // What the deadline analysis answers.
-ghost use Rattle.std.specs.Prelude.{◌≡◌, ◌≤◌, length};
-ghost use Rattle.table.specs.Rows.{Names};
+ghost use Rattle.std.specs.Prelude.{◌≡◌};
 ghost use Rattle.bounds.specs.Loads.{deadline_load, da};
 ghost use Rattle.bounds.specs.Made.{MadeDa};
 ghost use Rattle.bounds.specs.DaLaws.{da_laws};
 
 use super::Da;
 use crate::load::{carried_load, within};
+use crate::posed::Posed;
 use crate::processors::Processors;
 use crate::question::Question;
-use crate::question::sound::sound_on;
 use crate::test::Test;
 use table::fault::Fault;
-use table::row::Row;
 
 impl Da {
     /// The test on `m` processors.
@@ -25,38 +23,18 @@ impl Da {
 }
 
 // The carried loads of the tasks above, each with its deadline as estimate.
-fn load_above(rows: &[Row], task: usize, above: &[bool; 32]) -> u32
-    requires { (Names rows.now task) × (length rows.now ≤ 32) }
-    ensures { result ≡ deadline_load rows.now task above.now }
+fn load_above(q: &Posed<'_>) -> u32
+    ensures { result ≡ deadline_load q.now.rows.now q.now.task q.now.above.now }
 {
-    let own = rows[task - 1];
+    let own = q.own();
     let mut sum = 0;
-    for place in 0..rows.len() {
-        if above[place] {
-            let row = rows[place];
-            let load = carried_load(own, own.deadline(), row, row.deadline());
+    for (place, row) in q.rows.iter().enumerate() {
+        if q.above[place] {
+            let load = carried_load(own, own.deadline(), *row, row.deadline());
             sum += load;
         }
     }
     sum
-}
-
-// The answer on these rows.
-fn answer_on(
-    m: Processors,
-    rows: &[Row],
-    task: usize,
-    above: &[bool; 32],
-    estimates: &[u32; 32],
-) -> Option<u32>
-    ensures { result ≡ da m.count rows.now task above.now estimates.now }
-{
-    if !sound_on(rows, task, above, estimates) {
-        return None;
-    }
-    let own = rows[task - 1];
-    let bound = own.wcet() + load_above(rows, task, above) / m.count();
-    within(own.deadline(), bound)
 }
 
 impl Test for Da {
@@ -65,12 +43,9 @@ impl Test for Da {
     ghost kept = { da_laws };
 
     fn ask(&self, q: &Question<'_>) -> Option<u32> {
-        answer_on(
-            self.processors,
-            q.table.rows(),
-            q.task,
-            q.above,
-            q.estimates,
-        )
+        let q = q.posed()?;
+        let own = q.own();
+        let bound = own.wcet() + load_above(&q) / self.processors.count();
+        within(own.deadline(), bound)
     }
 }

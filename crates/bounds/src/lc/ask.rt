@@ -5,7 +5,6 @@ ghost use Rattle.bounds.specs.Responses.{lc as answered, LcMeaning};
 ghost use Rattle.bounds.specs.ResponseLoads.{lc_laws};
 
 use super::Lc;
-use crate::carry::CarryIn;
 use crate::climb::answer_by_climb;
 use crate::processors::Processors;
 use crate::question::Question;
@@ -30,6 +29,6 @@ impl Test for Lc {
 
     fn ask(&self, q: &Question<'_>) -> Option<u32> {
         let limit = self.processors.count() - 1;
-        answer_by_climb(self.processors, CarryIn::AtMost(limit), q)
+        answer_by_climb(self.processors, Some(limit), q)
     }
 }

@@ -5,7 +5,6 @@ ghost use Rattle.bounds.specs.Responses.{rta as answered, RtaMeaning};
 ghost use Rattle.bounds.specs.ResponseLoads.{rta_laws};
 
 use super::Rta;
-use crate::carry::CarryIn;
 use crate::climb::answer_by_climb;
 use crate::processors::Processors;
 use crate::question::Question;
@@ -29,6 +28,6 @@ impl Test for Rta {
     ghost kept = { rta_laws };
 
     fn ask(&self, q: &Question<'_>) -> Option<u32> {
-        answer_by_climb(self.processors, CarryIn::All, q)
+        answer_by_climb(self.processors, None, q)
     }
 }

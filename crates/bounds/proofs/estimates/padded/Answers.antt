@@ -3,4 +3,4 @@ use Rattle.bounds.proofs.Padded.{padded_made}
 use Rattle.bounds.proofs.estimates.padded.Goals as goal
 
 pub returns : goal.returns
-returns c = padded_made _ _ c.args.numbers.now c.from_fn.result c.from_fn.ensures.items (λ i y q below called. search rules)
+returns c = padded_made _ c.args.numbers.now c.from_fn.result c.from_fn.ensures.items (λ j y e called. search rules)

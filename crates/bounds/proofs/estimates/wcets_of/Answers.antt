@@ -4,4 +4,4 @@ use Rattle.bounds.proofs.Padded.{padded_made}
 use Rattle.bounds.proofs.estimates.wcets_of.Goals as goal
 
 pub returns : goal.returns
-returns c = padded_made _ _ (costs c.args.rows.now) c.from_fn.result c.from_fn.ensures.items (λ i y q below called. search rules)
+returns c = padded_made _ (costs c.args.rows.now) c.from_fn.result c.from_fn.ensures.items (λ j y e called. search rules)

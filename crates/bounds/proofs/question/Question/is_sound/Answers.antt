@@ -1,13 +1,36 @@
-use Rattle.std.proofs.Common.{ap, ◌∙◌}
+use Rattle.std.proofs.Common.{◌+◌, refl, ◌∙◌, arith, rules}
+use borrow.Author.Tests.{tests}
+use Rattle.std.proofs.lemmas.Bool.{false≢true}
 use Rattle.std.proofs.lemmas.Bool.Decides.{Decides-at}
+use Rattle.std.proofs.lemmas.Iterator.{YieldsList-from_range}
+use Rattle.std.proofs.lemmas.Iterator.Search.{all_from_yields_List}
 use Rattle.table.specs.Rows.{view}
-use Rattle.bounds.specs.Questions.{soundb}
+use Rattle.table.proofs.Placed.{nth_at}
+use Rattle.bounds.specs.Questions.{fitsb}
 use Rattle.bounds.specs.Sounds.{sound_decides}
+use Rattle.bounds.proofs.Places.{all_places, sound_by_places}
 use Rattle.bounds.proofs.question.Question.is_sound.Goals as goal
+use Rattle.bounds.proofs.question.Question.is_sound.Goals.{then-task-eq0-via-then-task-eq0, then-task-eq0-via-else-task-eq0+then-task-len, then-task-eq0-via-else-task-eq0+else-task-len+then-self-task}
+
+pub returns-then-task-eq0 : goal.returns-then-task-eq0
+returns-then-task-eq0 c = (
+  (λ no'. absurd (false≢true no')),
+  (λ sound. absurd (elim c.then-task-eq0.branch [
+    | then-task-eq0-via-then-task-eq0 w ↦ omega (arith, sound.names)
+    | then-task-eq0-via-else-task-eq0+then-task-len w ↦ omega (arith, sound.names)
+    | then-task-eq0-via-else-task-eq0+else-task-len+then-self-task w ↦ sound.apart (nth_at c.args.self.now.above.now c.args.self.now.task _ sound.names.0 ∙ w.if-self-task.true)
+  ])),
+)
 
 pub returns : goal.returns
 returns c =
     let q = c.args.self.now in
+    let rows = view q.table.now in
+    let fits = fitsb rows q.above.now q.estimates.now in
     Decides-at _ _
-    (c.sound_on.ensures ∙ ap (λ rows. soundb rows q.task q.above.now q.estimates.now) c.rows.ensures.value)
-    (sound_decides (view q.table.now) q.task q.above.now q.estimates.now)
+    (
+    all_from_yields_List (λ place. fits (place + 1)) _ _ c.all.result c.all.ensures.ran (YieldsList-from_range 0 32 32 refl refl) (λ x b q k. search (rules, tests))
+    ∙ all_places fits 32
+    ∙ sound_by_places rows q.task q.above.now q.estimates.now (omega arith) (omega arith, omega arith) c.if-self-task.false
+    )
+    (sound_decides rows q.task q.above.now q.estimates.now)

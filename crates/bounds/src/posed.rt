@@ -1,0 +1,16 @@
+// A sound question on its rows.
+ghost use Rattle.bounds.specs.Questions.{Sound};
+
+use table::row::Row;
+
+pub mod own;
+
+/// A task, the tasks above it and the estimates, on rows on which they are sound.
+#[derive(Clone, Copy)]
+pub(crate) struct Posed<'a> {
+    pub(crate) rows: &'a [Row],
+    pub(crate) task: usize,
+    pub(crate) above: &'a [bool; 32],
+    pub(crate) estimates: &'a [u32; 32],
+    ghost sound: { Sound rows.now task above.now estimates.now },
+}
