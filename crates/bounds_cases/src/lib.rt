@@ -13,92 +13,87 @@ mod tests {
     use bounds::question::Question;
     use bounds::rta::Rta;
     use bounds::test::Test;
+    use std::array;
     use std::process::Abort;
     use std::test::Fail;
     use table::fault::{Fault, Layer, Place};
     use table::rows::Table;
     use worked::worked_table;
 
-    // The rows in the list, which names at most 32.
+    // The tasks in the list as a set.
     fn set_of(tasks: &[usize]) -> [bool; 32] {
-        let mut above = [false; 32];
-        for k in tasks {
-            let task = *k;
-            if 1 <= task && task <= 32 {
-                above[task - 1] = true;
-            }
-        }
-        above
+        array::from_fn(|place| tasks.contains(&(place + 1)))
     }
 
-    fn estimates_of(a: u32, b: u32, c: u32) -> [u32; 32] {
-        let mut estimates = [0; 32];
-        estimates[0] = a;
-        estimates[1] = b;
-        estimates[2] = c;
-        estimates
+    // The estimates, with 0 past the last one.
+    fn estimates_of(list: &[u32]) -> [u32; 32] {
+        array::from_fn(|place| list.get(place).copied().unwrap_or(0))
     }
 
-    // What da on 2 processors answers of the worked table.
-    fn da_on(task: usize, tasks: &[usize], estimates: [u32; 32]) -> Result<Option<u32>, Fail> {
-        let table = worked_table()?;
-        let test = Da::new(2)?;
-        let above = set_of(tasks);
+    // What a test answers of a task of the worked table.
+    fn answer_of<T: Test>(
+        test: &T,
+        task: usize,
+        above: &[usize],
+        estimates: &[u32],
+    ) -> Result<Option<u32>, Fail> {
         let question = Question {
-            table: &table,
+            table: &worked_table()?,
             task,
-            above: &above,
-            estimates: &estimates,
+            above: &set_of(above),
+            estimates: &estimates_of(estimates),
         };
         Ok(test.ask(&question))
     }
 
-    fn refused(rt: &impl Abort, r: Result<Option<usize>, Fault>, number: u32) -> Result<(), Fail> {
-        let Err(fault) = r else {
-            return Err(Fail::new("the call was accepted"));
-        };
+    // What da on 2 processors answers of a task of the worked table.
+    fn da_on(task: usize, above: &[usize], estimates: &[u32]) -> Result<Option<u32>, Fail> {
+        answer_of(&Da::new(2)?, task, above, estimates)
+    }
+
+    // What a test answers of c in the worked table with a and b above.
+    fn on_c<T: Test>(test: &T, a: u32, b: u32) -> Result<Option<u32>, Fail> {
+        answer_of(test, 3, &[1, 2], &[a, b, 3])
+    }
+
+    // The call was refused by this layer with this number, and without a sheet.
+    fn refused<T: Drop>(
+        rt: &impl Abort,
+        given: Result<T, Fault>,
+        number: u32,
+        layer: Layer,
+    ) -> Result<(), Fail> {
+        let fault = given
+            .err()
+            .ok_or_else(|| Fail::new("the call was accepted"))?;
         assert_eq!(rt; fault.number(), number);
-        assert_eq!(rt; fault.layer(), Layer::Study);
+        assert_eq!(rt; fault.layer(), layer);
         assert_eq!(rt; fault.place(), Place::NOWHERE);
         Ok(())
     }
 
     #[test]
     fn answers_by_deadlines(rt: HostRuntime) -> Result<(), Fail> {
-        let low = estimates_of(2, 2, 3);
+        let low = &[2, 2, 3];
         assert_eq!(rt; da_on(3, &[1, 2], low)?, None);
         assert_eq!(rt; da_on(3, &[1], low)?, Some(5));
         assert_eq!(rt; da_on(3, &[], low)?, Some(3));
         assert_eq!(rt; da_on(2, &[1], low)?, Some(4));
-        assert_eq!(rt; da_on(3, &[1], estimates_of(5, 5, 6))?, Some(5));
+        assert_eq!(rt; da_on(3, &[1], &[5, 5, 6])?, Some(5));
         Ok(())
     }
 
     #[test]
     fn unsound_questions_are_late(rt: HostRuntime) -> Result<(), Fail> {
-        let low = estimates_of(2, 2, 3);
+        let low = &[2, 2, 3];
         assert_eq!(rt; da_on(0, &[], low)?, None);
         assert_eq!(rt; da_on(4, &[], low)?, None);
         assert_eq!(rt; da_on(3, &[3], low)?, None);
         assert_eq!(rt; da_on(3, &[4], low)?, None);
-        assert_eq!(rt; da_on(3, &[1], estimates_of(1, 2, 3))?, None);
-        assert_eq!(rt; da_on(3, &[1], estimates_of(2, 6, 3))?, None);
-        assert_eq!(rt; da_on(3, &[1], estimates_of(2, 2, 7))?, None);
+        assert_eq!(rt; da_on(3, &[1], &[1, 2, 3])?, None);
+        assert_eq!(rt; da_on(3, &[1], &[2, 6, 3])?, None);
+        assert_eq!(rt; da_on(3, &[1], &[2, 2, 7])?, None);
         Ok(())
-    }
-
-    // What a test answers of c in the worked table with a and b above.
-    fn on_c<T: Test>(test: &T, a: u32, b: u32) -> Result<Option<u32>, Fail> {
-        let table = worked_table()?;
-        let above = set_of(&[1, 2]);
-        let estimates = estimates_of(a, b, 3);
-        let question = Question {
-            table: &table,
-            task: 3,
-            above: &above,
-            estimates: &estimates,
-        };
-        Ok(test.ask(&question))
     }
 
     #[test]
@@ -132,39 +127,23 @@ mod tests {
         Ok(())
     }
 
-    // The call was refused by the board layer with 12.
-    fn no_test(rt: &impl Abort, fault: Fault) {
-        assert_eq!(rt; fault.number(), 12);
-        assert_eq!(rt; fault.layer(), Layer::Board);
-        assert_eq!(rt; fault.place(), Place::NOWHERE);
-    }
-
     #[test]
     fn refuses_other_tests(rt: HostRuntime) -> Result<(), Fail> {
         for name in ["", "d", "dab", "DA", "rta ", "edf", "l"] {
-            let Err(fault) = NamedTest::new(name.as_bytes(), 2) else {
-                return Err(Fail::new("the name was accepted"));
-            };
-            no_test(&rt, fault);
+            refused(&rt, NamedTest::new(name.as_bytes(), 2), 12, Layer::Board)?;
         }
         for name in ["da", "rta", "lc"] {
             assert!(rt; NamedTest::new(name.as_bytes(), 1).is_ok());
             assert!(rt; NamedTest::new(name.as_bytes(), 16).is_ok());
-            let Err(fault) = NamedTest::new(name.as_bytes(), 0) else {
-                return Err(Fail::new("no processor was accepted"));
-            };
-            no_test(&rt, fault);
+            refused(&rt, NamedTest::new(name.as_bytes(), 0), 12, Layer::Board)?;
         }
         Ok(())
     }
 
     #[test]
     fn refuses_a_long_overhead(rt: HostRuntime) -> Result<(), Fail> {
-        let Err(fault) = Overhead::new(1_000_001, Rta::new(2)?) else {
-            return Err(Fail::new("the overhead was accepted"));
-        };
-        no_test(&rt, fault);
-        Ok(())
+        let overhead = Overhead::new(1_000_001, Rta::new(2)?);
+        refused(&rt, overhead, 12, Layer::Board)
     }
 
     #[test]
@@ -196,32 +175,25 @@ mod tests {
         Ok(())
     }
 
-    // The check was refused by the study layer with this number.
-    fn no_check(rt: &impl Abort, r: Result<Option<Miss>, Fault>, number: u32) -> Result<(), Fail> {
-        let Err(fault) = r else {
-            return Err(Fail::new("the call was accepted"));
-        };
-        assert_eq!(rt; fault.number(), number);
-        assert_eq!(rt; fault.layer(), Layer::Study);
-        assert_eq!(rt; fault.place(), Place::NOWHERE);
-        Ok(())
-    }
-
     #[test]
     fn refuses_what_is_no_answer(rt: HostRuntime) -> Result<(), Fail> {
         let table = worked_table()?;
         let rta = Rta::new(2)?;
-        no_check(&rt, check_answer(&rta, &Table::new(), &[1], &[1]), 13)?;
-        no_check(&rt, check_answer(&rta, &table, &[1, 2], &[2, 3, 5]), 17)?;
-        no_check(&rt, check_answer(&rta, &table, &[1, 2, 2], &[2, 3, 5]), 17)?;
-        no_check(&rt, check_answer(&rta, &table, &[1, 2, 3], &[2, 3]), 17)?;
-        no_check(
-            &rt,
-            check_answer(&rta, &table, &[1, 2, 3], &[2, 3, 5, 5]),
-            17,
-        )?;
-        no_check(&rt, check_answer(&rta, &table, &[1, 2, 3], &[1, 3, 5]), 17)?;
-        no_check(&rt, check_answer(&rta, &table, &[1, 2, 3], &[2, 3, 7]), 17)
+        let empty = check_answer(&rta, &Table::new(), &[1], &[1]);
+        refused(&rt, empty, 13, Layer::Study)?;
+        let answers: [(&[usize], &[u32]); 6] = [
+            (&[1, 2], &[2, 3, 5]),
+            (&[1, 2, 2], &[2, 3, 5]),
+            (&[1, 2, 3], &[2, 3]),
+            (&[1, 2, 3], &[2, 3, 5, 5]),
+            (&[1, 2, 3], &[1, 3, 5]),
+            (&[1, 2, 3], &[2, 3, 7]),
+        ];
+        for (order, estimates) in answers {
+            let given = check_answer(&rta, &table, order, estimates);
+            refused(&rt, given, 17, Layer::Study)?;
+        }
+        Ok(())
     }
 
     #[test]
@@ -229,12 +201,7 @@ mod tests {
         assert!(rt; Da::new(1).is_ok());
         assert!(rt; Da::new(16).is_ok());
         for m in [0, 17, 4_294_967_295] {
-            let Err(fault) = Da::new(m) else {
-                return Err(Fail::new("the call was accepted"));
-            };
-            assert_eq!(rt; fault.number(), 12);
-            assert_eq!(rt; fault.layer(), Layer::Board);
-            assert_eq!(rt; fault.place(), Place::NOWHERE);
+            refused(&rt, Da::new(m), 12, Layer::Board)?;
         }
         Ok(())
     }
@@ -269,16 +236,11 @@ mod tests {
     #[test]
     fn refuses_an_empty_table(rt: HostRuntime) -> Result<(), Fail> {
         let mut bounds = [7, 8, 9];
-        refused(
-            &rt,
-            analyse(&Da::new(2)?, &Table::new(), &[], &mut bounds),
-            13,
-        )?;
-        refused(
-            &rt,
-            analyse(&Da::new(2)?, &Table::new(), &[1], &mut bounds),
-            13,
-        )?;
+        let orders: [&[usize]; 2] = [&[], &[1]];
+        for order in orders {
+            let given = analyse(&Da::new(2)?, &Table::new(), order, &mut bounds);
+            refused(&rt, given, 13, Layer::Study)?;
+        }
         assert_eq!(rt; bounds, [7, 8, 9]);
         Ok(())
     }
@@ -288,11 +250,11 @@ mod tests {
         let table = worked_table()?;
         let test = Da::new(2)?;
         let mut bounds = [7, 8];
-        refused(&rt, analyse(&test, &table, &[1, 2], &mut bounds), 17)?;
-        refused(&rt, analyse(&test, &table, &[1, 2, 2], &mut bounds), 17)?;
-        refused(&rt, analyse(&test, &table, &[0, 1, 2], &mut bounds), 17)?;
-        refused(&rt, analyse(&test, &table, &[1, 2, 4], &mut bounds), 17)?;
-        refused(&rt, analyse(&test, &table, &[1, 2, 3, 3], &mut bounds), 17)?;
+        let orders: [&[usize]; 5] = [&[1, 2], &[1, 2, 2], &[0, 1, 2], &[1, 2, 4], &[1, 2, 3, 3]];
+        for order in orders {
+            let given = analyse(&test, &table, order, &mut bounds);
+            refused(&rt, given, 17, Layer::Study)?;
+        }
         assert_eq!(rt; bounds, [7, 8]);
         Ok(())
     }
@@ -302,10 +264,12 @@ mod tests {
         let table = worked_table()?;
         let test = Da::new(2)?;
         let mut short = [7, 8];
-        refused(&rt, analyse(&test, &table, &[3, 2, 1], &mut short), 18)?;
+        let given = analyse(&test, &table, &[3, 2, 1], &mut short);
+        refused(&rt, given, 18, Layer::Study)?;
         assert_eq!(rt; short, [7, 8]);
         let mut long = [6, 7, 8, 9];
-        refused(&rt, analyse(&test, &table, &[3, 2, 1], &mut long), 18)?;
+        let given = analyse(&test, &table, &[3, 2, 1], &mut long);
+        refused(&rt, given, 18, Layer::Study)?;
         assert_eq!(rt; long, [6, 7, 8, 9]);
         Ok(())
     }

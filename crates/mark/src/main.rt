@@ -5,14 +5,14 @@
 use anyhow::anyhow;
 use bounds::analyse::analyse;
 use bounds::check::check;
-use bounds::miss::Miss;
 use bounds::named::NamedTest;
 use orders::assign::assign;
 use orders::grow::grow;
 use orders::range::Range;
-use std::fmt;
+use std::{array, fmt};
 use table::fault::Fault;
 use table::row::Row;
+use table::rows::Table;
 use worked::worked_table;
 
 /// The order a, b, c, and the estimates of its answer.
@@ -20,8 +20,23 @@ const ORDER: [usize; 3] = [1, 2, 3];
 
 const ESTIMATES: [u32; 3] = [2, 3, 5];
 
-/// What is printed of a task: its bound, that it is late, or that a task above it is.
+/// A task of the worked table, by its row's number. It prints as its name.
 #[derive(Clone, Copy)]
+struct Task(usize);
+
+impl fmt::Display for Task {
+    fn fmt<W: fmt::Write>(&self, f: &mut fmt::Formatter<W>) -> fmt::Result {
+        match self.0 {
+            1 => write!(f, "a"),
+            2 => write!(f, "b"),
+            3 => write!(f, "c"),
+            other => write!(f, "{other}"),
+        }
+    }
+}
+
+/// What is printed of a task: its bound, that it is late, or that a task above it is.
+#[derive(Clone, Copy, PartialEq, Eq, Debug)]
 enum Outcome {
     Bound(u32),
     Late,
@@ -46,130 +61,110 @@ struct Analysis {
 }
 
 impl Analysis {
+    // The bound of a task: none where it is late, or a task above it is.
+    fn bound(&self, task: usize) -> Option<u32> {
+        let bound = *self.bounds.get(task.checked_sub(1)?)?;
+        (bound > 0).then_some(bound)
+    }
+
     fn outcome(&self, task: usize) -> Outcome {
         if self.late == Some(task) {
             return Outcome::Late;
         }
-        if 1 <= task && task <= 3 && self.bounds[task - 1] > 0 {
-            return Outcome::Bound(self.bounds[task - 1]);
+        self.bound(task).map_or(Outcome::Below, Outcome::Bound)
+    }
+}
+
+/// The worked table, and the test of a name on 2 processors.
+#[derive(Drop)]
+struct Worked {
+    name: &'static str,
+    table: Table<Row>,
+    test: NamedTest,
+}
+
+impl Worked {
+    fn new(name: &'static str) -> anyhow::Result<Worked> {
+        let table = worked_table().map_err(refused)?;
+        let test = NamedTest::new(name.as_bytes(), 2).map_err(refused)?;
+        Ok(Worked { name, table, test })
+    }
+
+    fn print_analysis(&self, rt: &impl Print) -> anyhow::Result<()> {
+        let name = self.name;
+        let mut bounds = [0; 3];
+        let late = analyse(&self.test, &self.table, &ORDER, &mut bounds).map_err(refused)?;
+        let analysis = Analysis { late, bounds };
+        for task in ORDER {
+            println!(rt; "{name} {} {}", Task(task), analysis.outcome(task))?;
         }
-        Outcome::Below
+        Ok(())
     }
-}
 
-/// What a range is: open, with an order that passes it, or closed, with the grown range.
-#[derive(Clone, Copy)]
-enum Standing {
-    Open([usize; 32]),
-    Closed(Range),
-}
-
-// The names of the worked table's tasks.
-fn name_of(task: usize) -> &'static str {
-    match task {
-        1 => "a",
-        2 => "b",
-        _ => "c",
+    fn print_check(&self, rt: &impl Print) -> anyhow::Result<()> {
+        let name = self.name;
+        let checked = check(&self.test, &self.table, &ORDER, &ESTIMATES);
+        match checked.map_err(refused)? {
+            None => println!(rt; "{name} passes - 0")?,
+            Some(miss) => {
+                let outcome = miss.bound.map_or(Outcome::Late, Outcome::Bound);
+                println!(rt; "{name} fails {} {outcome}", Task(miss.task))?;
+            }
+        }
+        Ok(())
     }
-}
 
-fn analysed(name: &str) -> Result<Analysis, Fault> {
-    let table = worked_table()?;
-    let test = NamedTest::new(name.as_bytes(), 2)?;
-    let mut bounds = [0; 3];
-    let late = analyse(&test, &table, &ORDER, &mut bounds)?;
-    Ok(Analysis { late, bounds })
-}
-
-fn checked(name: &str) -> Result<Option<Miss>, Fault> {
-    let table = worked_table()?;
-    let test = NamedTest::new(name.as_bytes(), 2)?;
-    check(&test, &table, &ORDER, &ESTIMATES)
+    fn print_standing(&self, rt: &impl Print) -> anyhow::Result<()> {
+        let name = self.name;
+        let rows = self.table.len();
+        let range = whole_range(self.table.rows());
+        match assign(&self.test, &self.table, &range) {
+            Some(order) => {
+                for &task in order.iter().take(rows) {
+                    println!(rt; "{name} open {} - -", Task(task))?;
+                }
+            }
+            None => {
+                let grown = grow(&self.test, &self.table, &range);
+                let ends = grown.lows.iter().zip(&grown.highs);
+                for (task, (low, high)) in (1..=rows).zip(ends) {
+                    println!(rt; "{name} closed {} {low} {high}", Task(task))?;
+                }
+            }
+        }
+        Ok(())
+    }
 }
 
 // The range of all C to D.
 fn whole_range(rows: &[Row]) -> Range {
-    let mut range = Range {
-        lows: [0; 32],
-        highs: [0; 32],
-    };
-    for place in 0..rows.len().min(32) {
-        range.lows[place] = rows[place].wcet();
-        range.highs[place] = rows[place].deadline();
-    }
-    range
-}
-
-fn whole_standing(name: &str) -> Result<Standing, Fault> {
-    let table = worked_table()?;
-    let test = NamedTest::new(name.as_bytes(), 2)?;
-    let range = whole_range(table.rows());
-    match assign(&test, &table, &range) {
-        Some(order) => Ok(Standing::Open(order)),
-        None => Ok(Standing::Closed(grow(&test, &table, &range))),
+    Range {
+        lows: array::from_fn(|place| rows.get(place).map_or(0, Row::wcet)),
+        highs: array::from_fn(|place| rows.get(place).map_or(0, Row::deadline)),
     }
 }
 
-fn print_analysis(rt: &impl Print, name: &str) -> anyhow::Result<()> {
-    let Ok(analysis) = analysed(name) else {
-        return Err(anyhow!("the worked table was refused"));
-    };
-    for task in ORDER {
-        let task_name = name_of(task);
-        let outcome = analysis.outcome(task);
-        println!(rt; "{name} {task_name} {outcome}")?;
-    }
-    Ok(())
-}
-
-fn print_check(rt: &impl Print, name: &str) -> anyhow::Result<()> {
-    match checked(name) {
-        Ok(None) => println!(rt; "{name} passes - 0")?,
-        Ok(Some(miss)) => {
-            let task_name = name_of(miss.task);
-            match miss.bound {
-                Some(bound) => println!(rt; "{name} fails {task_name} {bound}")?,
-                None => println!(rt; "{name} fails {task_name} late")?,
-            }
-        }
-        Err(_) => return Err(anyhow!("the worked answer was refused")),
-    }
-    Ok(())
-}
-
-fn print_standing(rt: &impl Print, name: &str) -> anyhow::Result<()> {
-    match whole_standing(name) {
-        Ok(Standing::Open(order)) => {
-            for place in 0..3 {
-                let task_name = name_of(order[place]);
-                println!(rt; "{name} open {task_name} - -")?;
-            }
-        }
-        Ok(Standing::Closed(grown)) => {
-            for place in 0..3 {
-                let task_name = name_of(place + 1);
-                let low = grown.lows[place];
-                let high = grown.highs[place];
-                println!(rt; "{name} closed {task_name} {low} {high}")?;
-            }
-        }
-        Err(_) => return Err(anyhow!("the worked range was refused")),
-    }
-    Ok(())
+// A refusal as the program's error.
+fn refused(fault: Fault) -> anyhow::Error {
+    anyhow!(
+        "a worked example was refused, by question {}",
+        fault.number()
+    )
 }
 
 fn run(rt: &impl Print) -> anyhow::Result<()> {
+    let all = [Worked::new("da")?, Worked::new("rta")?, Worked::new("lc")?];
     println!(rt; "test task bound")?;
-    for name in ["da", "rta", "lc"] {
-        print_analysis(rt, name)?;
+    for worked in &all {
+        worked.print_analysis(rt)?;
     }
     println!(rt; "test answer task bound")?;
-    for name in ["da", "rta", "lc"] {
-        print_check(rt, name)?;
+    for worked in &all {
+        worked.print_check(rt)?;
     }
     println!(rt; "test range task low high")?;
-    for name in ["da", "rta", "lc"] {
-        print_standing(rt, name)?;
+    for worked in &all {
+        worked.print_standing(rt)?;
     }
     Ok(())
 }

@@ -10,8 +10,9 @@ mod tests {
     use orders::assign::assign;
     use orders::grow::grow;
     use orders::range::Range;
-    use std::process::Abort;
+    use std::array;
     use std::test::Fail;
+    use table::fault::Fault;
     use table::row::Row;
     use table::rows::Table;
     use worked::worked_table;
@@ -22,12 +23,11 @@ mod tests {
     // What stands in the highs past the rows.
     const PAST_HIGH: u32 = 4;
 
-    // A test, the rows as wcet, period and deadline, and a low and a high for each row.
-    // The overhead 0 stands for none.
+    // A test with its overhead, if any, the rows as wcet, period and deadline, and a low and a high for each row.
     struct Case<'a> {
         test: &'a str,
         processors: u32,
-        overhead: u32,
+        overhead: Option<u32>,
         rows: &'a [(u32, u32, u32)],
         lows: &'a [u32],
         highs: &'a [u32],
@@ -51,7 +51,7 @@ mod tests {
             case: Case {
                 test: "da",
                 processors: 1,
-                overhead: 0,
+                overhead: None,
                 rows: &[(2, 11, 11), (4, 11, 9)],
                 lows: &[7, 6],
                 highs: &[7, 8],
@@ -62,7 +62,7 @@ mod tests {
             case: Case {
                 test: "da",
                 processors: 2,
-                overhead: 0,
+                overhead: None,
                 rows: &[(4, 7, 7), (2, 8, 7), (3, 11, 9)],
                 lows: &[6, 5, 4],
                 highs: &[6, 5, 8],
@@ -73,7 +73,7 @@ mod tests {
             case: Case {
                 test: "da",
                 processors: 3,
-                overhead: 0,
+                overhead: None,
                 rows: &[(2, 12, 9), (3, 12, 9), (3, 11, 10), (4, 12, 9)],
                 lows: &[7, 3, 8, 7],
                 highs: &[8, 3, 8, 7],
@@ -84,7 +84,7 @@ mod tests {
             case: Case {
                 test: "rta",
                 processors: 1,
-                overhead: 0,
+                overhead: None,
                 rows: &[(2, 11, 5), (2, 10, 10), (1, 11, 6)],
                 lows: &[4, 3, 2],
                 highs: &[4, 7, 4],
@@ -95,7 +95,7 @@ mod tests {
             case: Case {
                 test: "rta",
                 processors: 2,
-                overhead: 0,
+                overhead: None,
                 rows: &[(5, 6, 6), (3, 10, 6), (1, 7, 4), (1, 7, 7)],
                 lows: &[6, 4, 2, 6],
                 highs: &[6, 5, 3, 6],
@@ -106,7 +106,7 @@ mod tests {
             case: Case {
                 test: "rta",
                 processors: 3,
-                overhead: 0,
+                overhead: None,
                 rows: &[(1, 3, 3), (1, 3, 2), (3, 9, 8), (2, 12, 11), (4, 6, 6)],
                 lows: &[2, 2, 6, 5, 5],
                 highs: &[2, 2, 7, 5, 5],
@@ -117,7 +117,7 @@ mod tests {
             case: Case {
                 test: "lc",
                 processors: 1,
-                overhead: 0,
+                overhead: None,
                 rows: &[(2, 7, 6), (2, 11, 8), (1, 12, 5), (2, 12, 11)],
                 lows: &[4, 5, 5, 9],
                 highs: &[4, 6, 5, 9],
@@ -128,7 +128,7 @@ mod tests {
             case: Case {
                 test: "lc",
                 processors: 2,
-                overhead: 0,
+                overhead: None,
                 rows: &[(1, 12, 12), (4, 12, 12), (2, 10, 10), (3, 12, 4), (4, 7, 5)],
                 lows: &[2, 8, 5, 3, 5],
                 highs: &[4, 10, 10, 3, 5],
@@ -139,7 +139,7 @@ mod tests {
             case: Case {
                 test: "lc",
                 processors: 3,
-                overhead: 0,
+                overhead: None,
                 rows: &[(5, 9, 7), (3, 10, 6), (2, 9, 9), (2, 8, 6), (2, 12, 7)],
                 lows: &[6, 4, 9, 3, 2],
                 highs: &[6, 4, 9, 5, 4],
@@ -150,7 +150,7 @@ mod tests {
             case: Case {
                 test: "rta",
                 processors: 1,
-                overhead: 1,
+                overhead: Some(1),
                 rows: &[(2, 11, 11), (1, 10, 10), (1, 12, 9), (1, 7, 4), (2, 7, 7)],
                 lows: &[10, 1, 3, 2, 4],
                 highs: &[11, 10, 9, 2, 5],
@@ -161,7 +161,7 @@ mod tests {
             case: Case {
                 test: "rta",
                 processors: 2,
-                overhead: 1,
+                overhead: Some(1),
                 rows: &[(3, 11, 5), (3, 9, 8), (4, 9, 8), (1, 10, 8)],
                 lows: &[4, 4, 8, 2],
                 highs: &[4, 4, 8, 6],
@@ -172,7 +172,7 @@ mod tests {
             case: Case {
                 test: "rta",
                 processors: 3,
-                overhead: 1,
+                overhead: Some(1),
                 rows: &[(1, 5, 3), (1, 11, 8), (4, 11, 7), (1, 8, 6)],
                 lows: &[2, 2, 5, 4],
                 highs: &[2, 2, 5, 6],
@@ -183,7 +183,7 @@ mod tests {
             case: Case {
                 test: "rta",
                 processors: 1,
-                overhead: 0,
+                overhead: None,
                 rows: &[(5, 5, 5)],
                 lows: &[5],
                 highs: &[5],
@@ -194,7 +194,7 @@ mod tests {
             case: Case {
                 test: "da",
                 processors: 2,
-                overhead: 0,
+                overhead: None,
                 rows: &[(2, 11, 11), (2, 11, 6), (4, 12, 10), (3, 9, 7)],
                 lows: &[2, 2, 4, 3],
                 highs: &[11, 6, 8, 5],
@@ -205,7 +205,7 @@ mod tests {
             case: Case {
                 test: "lc",
                 processors: 2,
-                overhead: 0,
+                overhead: None,
                 rows: &[(4, 11, 10), (1, 8, 5), (2, 10, 8), (2, 6, 5)],
                 lows: &[4, 1, 2, 2],
                 highs: &[6, 4, 4, 4],
@@ -216,7 +216,7 @@ mod tests {
             case: Case {
                 test: "rta",
                 processors: 2,
-                overhead: 1,
+                overhead: Some(1),
                 rows: &[(3, 10, 10), (3, 6, 6), (3, 8, 8)],
                 lows: &[7, 4, 6],
                 highs: &[9, 6, 8],
@@ -230,7 +230,7 @@ mod tests {
             case: Case {
                 test: "da",
                 processors: 1,
-                overhead: 0,
+                overhead: None,
                 rows: &[(1, 6, 6), (1, 10, 4), (2, 10, 10)],
                 lows: &[3, 2, 5],
                 highs: &[3, 2, 5],
@@ -242,7 +242,7 @@ mod tests {
             case: Case {
                 test: "da",
                 processors: 2,
-                overhead: 0,
+                overhead: None,
                 rows: &[(2, 11, 11), (2, 11, 6), (4, 12, 10), (3, 9, 7)],
                 lows: &[4, 2, 6, 3],
                 highs: &[5, 2, 7, 3],
@@ -254,7 +254,7 @@ mod tests {
             case: Case {
                 test: "da",
                 processors: 3,
-                overhead: 0,
+                overhead: None,
                 rows: &[(4, 11, 11), (2, 12, 11), (5, 10, 9), (1, 7, 2), (1, 6, 5)],
                 lows: &[4, 10, 6, 1, 1],
                 highs: &[4, 11, 6, 1, 1],
@@ -266,7 +266,7 @@ mod tests {
             case: Case {
                 test: "rta",
                 processors: 1,
-                overhead: 0,
+                overhead: None,
                 rows: &[(2, 12, 6), (1, 9, 2), (1, 6, 6), (1, 4, 3)],
                 lows: &[6, 2, 4, 2],
                 highs: &[6, 2, 4, 2],
@@ -278,7 +278,7 @@ mod tests {
             case: Case {
                 test: "rta",
                 processors: 2,
-                overhead: 0,
+                overhead: None,
                 rows: &[(3, 10, 9), (2, 12, 9), (1, 7, 4), (4, 12, 12), (2, 6, 6)],
                 lows: &[6, 7, 2, 9, 3],
                 highs: &[9, 8, 4, 9, 3],
@@ -290,7 +290,7 @@ mod tests {
             case: Case {
                 test: "rta",
                 processors: 3,
-                overhead: 0,
+                overhead: None,
                 rows: &[(1, 11, 6), (3, 6, 6), (3, 6, 6), (1, 4, 3), (3, 12, 7)],
                 lows: &[1, 3, 4, 1, 4],
                 highs: &[1, 5, 4, 1, 4],
@@ -302,7 +302,7 @@ mod tests {
             case: Case {
                 test: "lc",
                 processors: 1,
-                overhead: 0,
+                overhead: None,
                 rows: &[(3, 9, 9), (2, 8, 7), (2, 8, 3), (1, 7, 6), (2, 11, 11)],
                 lows: &[4, 6, 3, 3, 7],
                 highs: &[4, 6, 3, 4, 7],
@@ -314,7 +314,7 @@ mod tests {
             case: Case {
                 test: "lc",
                 processors: 2,
-                overhead: 0,
+                overhead: None,
                 rows: &[(4, 11, 10), (1, 8, 5), (2, 10, 8), (2, 6, 5)],
                 lows: &[6, 1, 2, 3],
                 highs: &[6, 1, 2, 3],
@@ -326,7 +326,7 @@ mod tests {
             case: Case {
                 test: "lc",
                 processors: 3,
-                overhead: 0,
+                overhead: None,
                 rows: &[(2, 4, 4), (4, 12, 10), (3, 10, 6), (2, 6, 4)],
                 lows: &[3, 4, 3, 2],
                 highs: &[3, 4, 3, 2],
@@ -338,7 +338,7 @@ mod tests {
             case: Case {
                 test: "rta",
                 processors: 1,
-                overhead: 1,
+                overhead: Some(1),
                 rows: &[(2, 8, 8), (5, 11, 10)],
                 lows: &[6, 8],
                 highs: &[6, 8],
@@ -350,7 +350,7 @@ mod tests {
             case: Case {
                 test: "rta",
                 processors: 2,
-                overhead: 1,
+                overhead: Some(1),
                 rows: &[(3, 10, 10), (3, 6, 6), (3, 8, 8)],
                 lows: &[8, 5, 7],
                 highs: &[8, 5, 8],
@@ -362,7 +362,7 @@ mod tests {
             case: Case {
                 test: "rta",
                 processors: 3,
-                overhead: 1,
+                overhead: Some(1),
                 rows: &[(1, 8, 6), (2, 4, 4), (3, 5, 5), (1, 6, 5)],
                 lows: &[1, 3, 4, 1],
                 highs: &[1, 3, 4, 2],
@@ -374,7 +374,7 @@ mod tests {
             case: Case {
                 test: "rta",
                 processors: 1,
-                overhead: 0,
+                overhead: None,
                 rows: &[(2, 3, 3), (2, 3, 3)],
                 lows: &[2, 2],
                 highs: &[2, 2],
@@ -386,7 +386,7 @@ mod tests {
             case: Case {
                 test: "rta",
                 processors: 1,
-                overhead: 1,
+                overhead: Some(1),
                 rows: &[(3, 5, 5)],
                 lows: &[3],
                 highs: &[3],
@@ -398,7 +398,7 @@ mod tests {
             case: Case {
                 test: "rta",
                 processors: 2,
-                overhead: 0,
+                overhead: None,
                 rows: &[(3, 10, 9), (2, 12, 9), (1, 7, 4), (4, 12, 12), (2, 6, 6)],
                 lows: &[3, 6, 1, 9, 3],
                 highs: &[9, 8, 4, 9, 6],
@@ -410,7 +410,7 @@ mod tests {
             case: Case {
                 test: "lc",
                 processors: 1,
-                overhead: 0,
+                overhead: None,
                 rows: &[(1, 4, 4), (2, 6, 5), (1, 8, 3), (2, 12, 12), (1, 10, 9)],
                 lows: &[1, 2, 1, 2, 1],
                 highs: &[1, 2, 1, 2, 1],
@@ -422,7 +422,7 @@ mod tests {
             case: Case {
                 test: "lc",
                 processors: 2,
-                overhead: 0,
+                overhead: None,
                 rows: &[(2, 5, 5), (2, 5, 5), (3, 6, 6)],
                 lows: &[2, 2, 3],
                 highs: &[2, 2, 3],
@@ -436,7 +436,7 @@ mod tests {
         Case {
             test: "da",
             processors: 2,
-            overhead: 0,
+            overhead: None,
             rows: &[(4, 7, 7), (2, 8, 7), (3, 11, 9)],
             lows: &[3, 5, 4],
             highs: &[6, 5, 8],
@@ -444,7 +444,7 @@ mod tests {
         Case {
             test: "da",
             processors: 3,
-            overhead: 0,
+            overhead: None,
             rows: &[(2, 12, 9), (3, 12, 9), (3, 11, 10), (4, 12, 9)],
             lows: &[7, 4, 8, 7],
             highs: &[8, 3, 8, 7],
@@ -452,7 +452,7 @@ mod tests {
         Case {
             test: "rta",
             processors: 1,
-            overhead: 0,
+            overhead: None,
             rows: &[(2, 11, 5), (2, 10, 10), (1, 11, 6)],
             lows: &[4, 3, 2],
             highs: &[6, 7, 4],
@@ -460,7 +460,7 @@ mod tests {
         Case {
             test: "rta",
             processors: 2,
-            overhead: 0,
+            overhead: None,
             rows: &[(5, 6, 6), (3, 10, 6), (1, 7, 4), (1, 7, 7)],
             lows: &[6, 4, 2, 0],
             highs: &[6, 5, 3, 6],
@@ -468,7 +468,7 @@ mod tests {
         Case {
             test: "lc",
             processors: 2,
-            overhead: 0,
+            overhead: None,
             rows: &[(1, 12, 12), (4, 12, 12), (2, 10, 10), (3, 12, 4), (4, 7, 5)],
             lows: &[2, 8, 5, 3, 5],
             highs: &[4, 10, 10, 3, 6],
@@ -476,7 +476,7 @@ mod tests {
         Case {
             test: "lc",
             processors: 3,
-            overhead: 0,
+            overhead: None,
             rows: &[(5, 9, 7), (3, 10, 6), (2, 9, 9), (2, 8, 6), (2, 12, 7)],
             lows: &[7, 4, 9, 3, 2],
             highs: &[6, 4, 9, 5, 4],
@@ -484,7 +484,7 @@ mod tests {
         Case {
             test: "rta",
             processors: 2,
-            overhead: 1,
+            overhead: Some(1),
             rows: &[(3, 11, 5), (3, 9, 8), (4, 9, 8), (1, 10, 8)],
             lows: &[4, 4, 8, 7],
             highs: &[4, 4, 8, 6],
@@ -492,7 +492,7 @@ mod tests {
         Case {
             test: "rta",
             processors: 3,
-            overhead: 1,
+            overhead: Some(1),
             rows: &[(1, 8, 6), (2, 4, 4), (3, 5, 5), (1, 6, 5)],
             lows: &[1, 3, 4, 1],
             highs: &[1, 5, 4, 2],
@@ -500,7 +500,7 @@ mod tests {
         Case {
             test: "lc",
             processors: 2,
-            overhead: 0,
+            overhead: None,
             rows: &[(4, 11, 10), (1, 8, 5), (2, 10, 8), (2, 6, 5)],
             lows: &[7, 1, 2, 3],
             highs: &[6, 1, 2, 3],
@@ -508,7 +508,7 @@ mod tests {
         Case {
             test: "da",
             processors: 1,
-            overhead: 0,
+            overhead: None,
             rows: &[(1, 6, 6), (1, 10, 4), (2, 10, 10)],
             lows: &[3, 2, 1],
             highs: &[3, 2, 5],
@@ -517,11 +517,7 @@ mod tests {
 
     // The values, and the same one in every place past them.
     fn padded<T: Copy + Drop>(values: &[T], past: T) -> [T; 32] {
-        let mut list = [past; 32];
-        for (place, value) in list.iter_mut().zip(values) {
-            *place = *value;
-        }
-        list
+        array::from_fn(|place| values.get(place).copied().unwrap_or(past))
     }
 
     fn range_of(lows: &[u32], highs: &[u32]) -> Range {
@@ -531,62 +527,64 @@ mod tests {
         }
     }
 
-    fn table_of(rows: &[(u32, u32, u32)]) -> Result<Table<Row>, Fail> {
+    fn table_of(rows: &[(u32, u32, u32)]) -> Result<Table<Row>, Fault> {
         let mut table = Table::new();
-        for row in rows {
-            let (wcet, period, deadline) = *row;
+        for &(wcet, period, deadline) in rows {
             table.add(wcet, period, deadline)?;
         }
         Ok(table)
     }
 
-    // The assigner gives this order, if any, and growth this range. The case goes by its list and its place there.
-    fn gives<T: Test>(
-        rt: &impl Abort,
-        list: &str,
-        place: usize,
-        test: &T,
-        table: &Table<Row>,
-        range: &Range,
-        order: Option<&[usize]>,
-        grown: &Range,
-    ) -> Result<(), Fail> {
-        let tasks = match order {
-            Some(tasks) => Some(padded(tasks, 0)),
-            None => None,
-        };
-        assert_eq!(rt; assign(test, table, range), tasks, "{list}[{place}]");
-        let found = grow(test, table, range);
-        assert_eq!(rt; found.lows, grown.lows, "{list}[{place}]");
-        assert_eq!(rt; found.highs, grown.highs, "{list}[{place}]");
-        Ok(())
+    // The order that the assigner gives, if any, and the ends that growth gives.
+    #[derive(Clone, Copy, PartialEq, Debug)]
+    struct Found {
+        order: Option<[usize; 32]>,
+        lows: [u32; 32],
+        highs: [u32; 32],
     }
 
-    fn case_gives(
-        rt: &impl Abort,
-        list: &str,
-        place: usize,
-        case: &Case<'_>,
-        order: Option<&[usize]>,
-        grown: &Range,
-    ) -> Result<(), Fail> {
-        let table = table_of(case.rows)?;
-        let range = range_of(case.lows, case.highs);
-        let test = NamedTest::new(case.test.as_bytes(), case.processors)?;
-        if case.overhead == 0 {
-            gives(rt, list, place, &test, &table, &range, order, grown)
-        } else {
-            let over = Overhead::new(case.overhead, test)?;
-            gives(rt, list, place, &over, &table, &range, order, grown)
+    impl Found {
+        fn new(order: Option<[usize; 32]>, grown: Range) -> Found {
+            let Range { lows, highs } = grown;
+            Found { order, lows, highs }
+        }
+    }
+
+    // What is found in a range of a table.
+    fn find<T: Test>(test: &T, table: &Table<Row>, range: &Range) -> Found {
+        Found::new(assign(test, table, range), grow(test, table, range))
+    }
+
+    // What is to be found: an order, if any, and a range.
+    fn wanted(order: Option<&[usize]>, grown: Range) -> Found {
+        Found::new(order.map(|tasks| padded(tasks, 0)), grown)
+    }
+
+    impl Case<'_> {
+        fn range(&self) -> Range {
+            range_of(self.lows, self.highs)
+        }
+
+        fn find(&self) -> Result<Found, Fault> {
+            let table = table_of(self.rows)?;
+            let range = self.range();
+            let test = NamedTest::new(self.test.as_bytes(), self.processors)?;
+            match self.overhead {
+                None => Ok(find(&test, &table, &range)),
+                Some(extra) => Ok(find(&Overhead::new(extra, test)?, &table, &range)),
+            }
         }
     }
 
     #[test]
     fn orders_open_ranges(rt: HostRuntime) -> Result<(), Fail> {
         for (place, open) in OPEN.iter().enumerate() {
-            let case = &open.case;
-            let same = range_of(case.lows, case.highs);
-            case_gives(&rt, "OPEN", place, case, Some(open.order), &same)?;
+            let same = open.case.range();
+            assert_eq!(rt;
+                open.case.find()?,
+                wanted(Some(open.order), same),
+                "OPEN[{place}]"
+            );
         }
         Ok(())
     }
@@ -595,7 +593,7 @@ mod tests {
     fn grows_closed_ranges(rt: HostRuntime) -> Result<(), Fail> {
         for (place, closed) in CLOSED.iter().enumerate() {
             let grown = range_of(closed.grown_lows, closed.grown_highs);
-            case_gives(&rt, "CLOSED", place, &closed.case, None, &grown)?;
+            assert_eq!(rt; closed.case.find()?, wanted(None, grown), "CLOSED[{place}]");
         }
         Ok(())
     }
@@ -603,8 +601,11 @@ mod tests {
     #[test]
     fn gives_back_what_is_no_range(rt: HostRuntime) -> Result<(), Fail> {
         for (place, case) in NO_RANGES.iter().enumerate() {
-            let same = range_of(case.lows, case.highs);
-            case_gives(&rt, "NO_RANGES", place, case, None, &same)?;
+            assert_eq!(rt;
+                case.find()?,
+                wanted(None, case.range()),
+                "NO_RANGES[{place}]"
+            );
         }
         Ok(())
     }
@@ -616,17 +617,9 @@ mod tests {
         let lows = range_of(&[2, 2, 3], &[2, 2, 3]);
         let closed = range_of(&[2, 2, 3], &[3, 3, 4]);
         let open = range_of(&[2, 2, 3], &[3, 3, 5]);
-        gives(&rt, "worked", 0, &test, &table, &lows, None, &closed)?;
-        gives(&rt, "worked", 1, &test, &table, &closed, None, &closed)?;
-        gives(
-            &rt,
-            "worked",
-            2,
-            &test,
-            &table,
-            &open,
-            Some(&[2, 1, 3]),
-            &open,
-        )
+        assert_eq!(rt; find(&test, &table, &lows), wanted(None, closed));
+        assert_eq!(rt; find(&test, &table, &closed), wanted(None, closed));
+        assert_eq!(rt; find(&test, &table, &open), wanted(Some(&[2, 1, 3]), open));
+        Ok(())
     }
 }

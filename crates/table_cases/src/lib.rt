@@ -9,30 +9,26 @@ mod tests {
     use table::row::Row;
     use table::rows::Table;
 
-    // The call was refused by the table layer with this number, and without a sheet.
-    fn refused(rt: &impl Abort, r: Result<(), Fault>, number: u32) -> Result<(), Fail> {
-        let Err(fault) = r else {
-            return Err(Fail::new("the call was accepted"));
-        };
+    // The fault has this number, layer and place.
+    fn is_fault(rt: &impl Abort, fault: Fault, number: u32, layer: Layer, place: Place) {
         assert_eq!(rt; fault.number(), number);
-        assert_eq!(rt; fault.layer(), Layer::Table);
-        assert_eq!(rt; fault.place(), Place::NOWHERE);
+        assert_eq!(rt; fault.layer(), layer);
+        assert_eq!(rt; fault.place(), place);
+    }
+
+    // The call was refused by the table layer with this number, and without a sheet.
+    fn refused<T: Drop>(rt: &impl Abort, given: Result<T, Fault>, number: u32) -> Result<(), Fail> {
+        let fault = given
+            .err()
+            .ok_or_else(|| Fail::new("the call was accepted"))?;
+        is_fault(rt, fault, number, Layer::Table, Place::NOWHERE);
         Ok(())
     }
 
-    fn has_row(
-        rt: &impl Abort,
-        table: &Table<Row>,
-        k: usize,
-        wcet: u32,
-        period: u32,
-        deadline: u32,
-    ) -> Result<(), Fail> {
+    // The wcet, the period and the deadline of row `k`.
+    fn numbers_of(table: &Table<Row>, k: usize) -> Result<(u32, u32, u32), Fault> {
         let row = table.row(k)?;
-        assert_eq!(rt; row.wcet(), wcet);
-        assert_eq!(rt; row.period(), period);
-        assert_eq!(rt; row.deadline(), deadline);
-        Ok(())
+        Ok((row.wcet(), row.period(), row.deadline()))
     }
 
     // Rows 1/10/5, 2/10/5, 3/10/5, and so on.
@@ -49,8 +45,9 @@ mod tests {
         let mut table = Table::new();
         table.add(1_000_000, 1_000_000, 1_000_000)?;
         table.add(1, 1, 1)?;
-        has_row(&rt, &table, 1, 1_000_000, 1_000_000, 1_000_000)?;
-        has_row(&rt, &table, 2, 1, 1, 1)
+        assert_eq!(rt; numbers_of(&table, 1)?, (1_000_000, 1_000_000, 1_000_000));
+        assert_eq!(rt; numbers_of(&table, 2)?, (1, 1, 1));
+        Ok(())
     }
 
     #[test]
@@ -90,8 +87,8 @@ mod tests {
         refused(&rt, table.alter(4, 1, 5, 5), 10)?;
         refused(&rt, table.remove(0), 10)?;
         refused(&rt, table.remove(4), 10)?;
-        assert!(rt; table.row(0).is_err());
-        assert!(rt; table.row(4).is_err());
+        refused(&rt, table.row(0), 10)?;
+        refused(&rt, table.row(4), 10)?;
         assert!(rt; table.same(&rows_of(3)?));
         Ok(())
     }
@@ -101,9 +98,10 @@ mod tests {
         let mut table = rows_of(3)?;
         table.alter(2, 7, 9, 8)?;
         assert_eq!(rt; table.len(), 3);
-        has_row(&rt, &table, 1, 1, 10, 5)?;
-        has_row(&rt, &table, 2, 7, 9, 8)?;
-        has_row(&rt, &table, 3, 3, 10, 5)
+        assert_eq!(rt; numbers_of(&table, 1)?, (1, 10, 5));
+        assert_eq!(rt; numbers_of(&table, 2)?, (7, 9, 8));
+        assert_eq!(rt; numbers_of(&table, 3)?, (3, 10, 5));
+        Ok(())
     }
 
     #[test]
@@ -111,8 +109,8 @@ mod tests {
         let mut table = rows_of(3)?;
         table.remove(1)?;
         assert_eq!(rt; table.len(), 2);
-        has_row(&rt, &table, 1, 2, 10, 5)?;
-        has_row(&rt, &table, 2, 3, 10, 5)?;
+        assert_eq!(rt; numbers_of(&table, 1)?, (2, 10, 5));
+        assert_eq!(rt; numbers_of(&table, 2)?, (3, 10, 5));
         table.remove(2)?;
         table.remove(1)?;
         assert!(rt; table.same(&Table::new()));
@@ -134,12 +132,6 @@ mod tests {
         other.alter(2, 2, 10, 5)?;
         assert!(rt; table.same(&other));
         Ok(())
-    }
-
-    fn is_fault(rt: &impl Abort, fault: Fault, number: u32, layer: Layer, place: Place) {
-        assert_eq!(rt; fault.number(), number);
-        assert_eq!(rt; fault.layer(), layer);
-        assert_eq!(rt; fault.place(), place);
     }
 
     #[test]

@@ -3,17 +3,22 @@
 // An argument says how many tables of each kind there are.
 #![tactic(auto)]
 
+ghost use Rattle.std.specs.Prelude.{◌-◌, ◌≤◌};
+
 use anyhow::anyhow;
 use bounds::named::NamedTest;
 use bounds::question::Question;
 use bounds::test::Test;
 use orders::grow::grow;
 use orders::range::Range;
-use std::env;
 use std::rt::{Clock, Env};
 use std::time::Instant;
+use std::{env, fmt};
+use table::fault::Fault;
 use table::row::Row;
 use table::rows::Table;
+
+const TESTS: [&str; 3] = ["da", "rta", "lc"];
 
 /// Pseudo-random numbers, by a linear congruential generator.
 #[derive(Clone, Copy)]
@@ -22,14 +27,15 @@ struct Numbers {
 }
 
 impl Numbers {
-    // A number from 0 to one below `limit`.
-    fn below(&mut self, limit: u32) -> u32 {
+    // A number from 0 to one below `limit`; 0 at the limit 0.
+    fn below(&mut self, limit: u32) -> u32
+        ensures { result ≤ limit - 1 }
+    {
         self.state = self
             .state
             .wrapping_mul(1_664_525)
             .wrapping_add(1_013_904_223);
-        let high = self.state / 2048;
-        if limit == 0 { 0 } else { high % limit }
+        (self.state / 2048).checked_rem(limit).unwrap_or(0)
     }
 }
 
@@ -40,38 +46,10 @@ struct Kind {
     longest: u32,
 }
 
-const KINDS: [Kind; 6] = [
-    Kind {
-        rows: 8,
-        longest: 1_000,
-    },
-    Kind {
-        rows: 16,
-        longest: 1_000,
-    },
-    Kind {
-        rows: 32,
-        longest: 1_000,
-    },
-    Kind {
-        rows: 8,
-        longest: 1_000_000,
-    },
-    Kind {
-        rows: 16,
-        longest: 1_000_000,
-    },
-    Kind {
-        rows: 32,
-        longest: 1_000_000,
-    },
-];
-
-/// What is measured on each table: a question for each task, or one growth.
-#[derive(Clone, Copy)]
-enum Measured {
-    Questions,
-    Growth,
+impl fmt::Display for Kind {
+    fn fmt<W: fmt::Write>(&self, f: &mut fmt::Formatter<W>) -> fmt::Result {
+        write!(f, "{} {}", self.rows, self.longest)
+    }
 }
 
 /// The tables of which ranges are grown.
@@ -80,142 +58,155 @@ const GROWN: Kind = Kind {
     longest: 1_000_000,
 };
 
-/// A table, an estimate for each row, and the set of the tasks above one.
+// A number folded into a checksum.
+fn folded(sum: u32, number: u32) -> u32 {
+    sum.wrapping_mul(31).wrapping_add(number)
+}
+
+/// A table, and an estimate for each row.
 #[derive(Drop)]
 struct Case {
     table: Table<Row>,
     estimates: [u32; 32],
-    above: [bool; 32],
 }
 
-// A table of a kind: the period up to the longest, the deadline up to the period, the wcet up to a fourth of it.
-fn make_case(kind: Kind, numbers: &mut Numbers) -> Case {
-    let mut case = Case {
-        table: Table::new(),
-        estimates: [0; 32],
-        above: [false; 32],
-    };
-    for place in 0..kind.rows.min(32) {
-        let period = numbers.below(kind.longest).min(999_999) + 1;
-        let deadline = numbers.below(period).min(999_999) + 1;
-        let wcet = numbers.below(deadline / 4).min(999_998) + 1;
-        let estimate = wcet.saturating_add(numbers.below(
-            deadline.saturating_sub(wcet).saturating_add(1),
-        ));
-        case.estimates[place] = estimate;
-        let _ = case.table.add(wcet, period, deadline);
+impl Case {
+    // A table of a kind: the period up to the longest, the deadline up to the period, the wcet up to a fourth of it.
+    fn new(kind: Kind, numbers: &mut Numbers) -> Result<Case, Fault> {
+        let mut table = Table::new();
+        let mut estimates = [0; 32];
+        for estimate in estimates.iter_mut().take(kind.rows) {
+            let period = numbers.below(kind.longest) + 1;
+            let deadline = numbers.below(period) + 1;
+            let wcet = numbers.below(deadline / 4) + 1;
+            *estimate = wcet + numbers.below(deadline - wcet + 1);
+            table.add(wcet, period, deadline)?;
+        }
+        Ok(Case { table, estimates })
     }
-    case
-}
 
-// The answers for each task with those before it above, folded into a checksum; late counts as 0.
-fn ask_all(test: &NamedTest, case: &mut Case, mut sum: u32) -> u32 {
-    case.above = [false; 32];
-    for place in 0..case.table.len().min(32) {
-        let question = Question {
-            table: &case.table,
-            task: place + 1,
-            above: &case.above,
-            estimates: &case.estimates,
+    // The answers for each task with those before it above, folded into a checksum; late counts as 0.
+    fn ask_all(&self, test: &NamedTest, mut sum: u32) -> u32 {
+        let mut above = [false; 32];
+        for place in 0..self.table.len() {
+            let question = Question {
+                table: &self.table,
+                task: place + 1,
+                above: &above,
+                estimates: &self.estimates,
+            };
+            sum = folded(sum, test.ask(&question).unwrap_or(0));
+            above[place] = true;
+        }
+        sum
+    }
+
+    // A list of estimates a fourth of the way from each wcet to the row's estimate. Hardly any table has an order that passes it.
+    fn tight_estimates(&self) -> [u32; 32] {
+        let mut list = self.estimates;
+        for (estimate, row) in list.iter_mut().zip(self.table.rows()) {
+            let wcet = row.wcet();
+            *estimate = wcet + estimate.saturating_sub(wcet) / 4;
+        }
+        list
+    }
+
+    // That list, grown as a range, folded into a checksum.
+    fn grow_one(&self, test: &NamedTest, sum: u32) -> u32 {
+        let list = self.tight_estimates();
+        let range = Range {
+            lows: list,
+            highs: list,
         };
-        let answer = test.ask(&question).unwrap_or(0);
-        sum = sum.wrapping_mul(31).wrapping_add(answer);
-        case.above[place] = true;
+        let grown = grow(test, &self.table, &range);
+        let ends = grown.lows.iter().zip(&grown.highs);
+        ends.fold(sum, |sum, (low, high)| folded(folded(sum, *low), *high))
     }
-    sum
 }
 
-// A list of estimates a fourth of the way from each wcet to the row's estimate. Hardly any table has an order that passes it.
-fn tight_estimates(case: &Case) -> [u32; 32] {
-    let mut list = case.estimates;
-    let rows = case.table.rows();
-    for place in 0..rows.len().min(32) {
-        let wcet = rows[place].wcet();
-        list[place] = wcet.saturating_add(list[place].saturating_sub(wcet) / 4);
-    }
-    list
-}
-
-// That list, grown as a range, folded into a checksum.
-fn grow_one(test: &NamedTest, case: &Case, mut sum: u32) -> u32 {
-    let list = tight_estimates(case);
-    let range = Range {
-        lows: list,
-        highs: list,
-    };
-    let grown = grow(test, &case.table, &range);
-    for place in 0..32 {
-        sum = sum.wrapping_mul(31).wrapping_add(grown.lows[place]);
-        sum = sum.wrapping_mul(31).wrapping_add(grown.highs[place]);
-    }
-    sum
-}
-
-// The checksum of a test on tables of a kind.
-fn checksum(test: &NamedTest, measured: Measured, kind: Kind, tables: u32) -> u32 {
+// The checksum of what is measured on so many tables of a kind.
+fn checksum<F: Fn(&Case, u32) -> u32>(kind: Kind, tables: u32, measure: F) -> Result<u32, Fault>
+    requires { F.IsAlwaysCallable measure }
+{
     let mut numbers = Numbers { state: 1 };
     let mut sum = 0;
     for _ in 0..tables {
-        let mut case = make_case(kind, &mut numbers);
-        sum = match measured {
-            Measured::Questions => ask_all(test, &mut case, sum),
-            Measured::Growth => grow_one(test, &case, sum),
-        };
+        let case = Case::new(kind, &mut numbers)?;
+        sum = measure(&case, sum);
     }
-    sum
+    Ok(sum)
 }
 
-// How many questions or growths there are on each table.
-fn on_each(measured: Measured, kind: Kind) -> u128 {
-    match measured {
-        Measured::Questions => kind.rows as u128,
-        Measured::Growth => 1,
-    }
+// A refusal as the program's error.
+fn refused(fault: Fault) -> anyhow::Error {
+    anyhow!("a call was refused, by question {}", fault.number())
 }
 
-fn time_test(
-    rt: &(impl Print + Eprint + Clock),
-    name: &str,
-    measured: Measured,
-    kind: Kind,
+/// Where to print, and how many tables of each kind there are.
+#[derive(Clone, Copy)]
+struct Benchmark<'a, R> {
+    rt: &'a R,
     tables: u32,
-) -> anyhow::Result<()> {
-    let Ok(test) = NamedTest::new(name.as_bytes(), 4) else {
-        return Err(anyhow!("the test was refused"));
-    };
-    let rows = kind.rows;
-    let longest = kind.longest;
-    let start = Instant::now(rt)?;
-    let sum = checksum(&test, measured, kind, tables);
-    let taken = start.elapsed(rt)?.as_nanos();
-    let times = u128::from(tables)
-        .saturating_mul(on_each(measured, kind))
-        .max(1);
-    let each = taken / times;
-    println!(rt; "{name} {rows} {longest} {sum}")?;
-    eprintln!(rt; "{name} {rows} {longest}: {each} ns")?;
-    Ok(())
+}
+
+impl<R: Print + Eprint + Clock> Benchmark<'_, R> {
+    // Prints the checksum of what is measured `on_each` times on each table, and how long one time takes.
+    fn time<F: Fn(&Case, u32) -> u32>(
+        &self,
+        name: &str,
+        kind: Kind,
+        on_each: usize,
+        measure: F,
+    ) -> anyhow::Result<()>
+        requires { F.IsAlwaysCallable measure }
+    {
+        let rt = self.rt;
+        let start = Instant::now(rt)?;
+        let sum = checksum(kind, self.tables, measure).map_err(refused)?;
+        let taken = start.elapsed(rt)?.as_nanos();
+        let times = u128::from(self.tables).saturating_mul(on_each as u128);
+        let each = taken / times.max(1);
+        println!(rt; "{name} {kind} {sum}")?;
+        eprintln!(rt; "{name} {kind}: {each} ns")?;
+        Ok(())
+    }
+
+    // Times a question for each task.
+    fn time_questions(&self, name: &str) -> anyhow::Result<()> {
+        let test = NamedTest::new(name.as_bytes(), 4).map_err(refused)?;
+        for longest in [1_000, 1_000_000] {
+            for rows in [8, 16, 32] {
+                let kind = Kind { rows, longest };
+                self.time(name, kind, rows, |case, sum| case.ask_all(&test, sum))?;
+            }
+        }
+        Ok(())
+    }
+
+    // Times a growth on each table.
+    fn time_growth(&self, name: &str) -> anyhow::Result<()> {
+        let test = NamedTest::new(name.as_bytes(), 4).map_err(refused)?;
+        self.time(name, GROWN, 1, |case, sum| case.grow_one(&test, sum))
+    }
 }
 
 fn tables_asked(rt: &(impl Env + Alloc)) -> anyhow::Result<u32> {
-    let mut tables = 20;
-    for word in env::args(rt)?.skip(1) {
-        tables = word.as_str().parse::<u32>()?;
+    match env::args(rt)?.skip(1).last() {
+        Some(word) => Ok(word.as_str().parse()?),
+        None => Ok(20),
     }
-    Ok(tables)
 }
 
 fn run(rt: &HostRuntime) -> anyhow::Result<()> {
     let tables = tables_asked(rt)?;
+    let benchmark = Benchmark { rt, tables };
     println!(rt; "test rows longest checksum")?;
-    for name in ["da", "rta", "lc"] {
-        for kind in KINDS {
-            time_test(rt, name, Measured::Questions, kind, tables)?;
-        }
+    for name in TESTS {
+        benchmark.time_questions(name)?;
     }
     println!(rt; "test rows longest grown")?;
-    for name in ["da", "rta", "lc"] {
-        time_test(rt, name, Measured::Growth, GROWN, tables)?;
+    for name in TESTS {
+        benchmark.time_growth(name)?;
     }
     Ok(())
 }
