@@ -1,4 +1,4 @@
--- Steps of the assigner's loops.
+-- Steps of the assigner's loop.
 use Rattle.std.proofs.Common.{◌≡◌, ℕ, zero, suc, ◌+◌, ◌-◌, ◌<◌, ◌≤◌, Bool, true, false, ◌&&◌, List, [], ◌∷◌, length, get_or, take, drop, set, replicate, Some, None, Option, sym, refl, ap, ◌∙◌, add-one, arith}
 use lib.Seq.{take-set-lt}
 use Rattle.std.proofs.lemmas.List.{drop-set, length-take-le, drop_all}
@@ -9,32 +9,7 @@ use Rattle.table.proofs.Placed.{nth_at, put_at}
 use Rattle.bounds.specs.Responses.{least_from}
 use Rattle.orders.specs.declared.range.Range.{Range}
 use Rattle.orders.specs.Ranges.{high, withinb}
-use Rattle.orders.specs.Assigner.{at_most, full, candidate, fill, assigned}
-
-pub full_none : full 0 ≡ replicate 32 false
-unfolding full
-full_none = refl
-
-pub full_more : (k : ℕ) → full (k + 1) ≡ set (full k) k true
-unfolding full
-full_more k = rw (add-one k) refl
-
--- what is left of the numbers gives the least
-module _ (p : ℕ → Bool) (k n : ℕ) where
-  some_left : k ≤ n → n + 1 - k ≡ suc (n + 1 - (k + 1))
-  some_left l = omega arith
-
-  pub least_end : n < k → least_from p k (n + 1 - k) ≡ None
-  unfolding least_from
-  least_end l = let z : n + 1 - k ≡ 0 = omega arith in rw z refl
-
-  pub least_here : k ≤ n → p k ≡ true → least_from p k (n + 1 - k) ≡ Some k
-  unfolding least_from
-  least_here l h = rw (some_left l) (cond-true (p k) (Some k) (least_from p (k + 1) (n + 1 - (k + 1))) h)
-
-  pub least_later : k ≤ n → p k ≡ false → least_from p k (n + 1 - k) ≡ least_from p (k + 1) (n + 1 - (k + 1))
-  unfolding least_from
-  least_later l h = rw (some_left l) (cond-false (p k) (Some k) (least_from p (k + 1) (n + 1 - (k + 1))) h)
+use Rattle.orders.specs.Assigner.{at_most, bind, full, candidate, fill, assigned}
 
 -- the tasks placed so far, once one more is placed above them
 pub placed_more : (tasks : List ℕ) (n level k : ℕ) → 0 < level → level ≤ n → n ≤ length tasks → k ∷ drop level (take n tasks) ≡ drop (level - 1) (take n (set tasks (level - 1) k))
@@ -64,15 +39,11 @@ module _ {T : Type 0} (answer : T → List Row → ℕ → List Bool → List �
   unfolding fill
   fill_none l left placed z = rw z refl
 
-  pub fill_more : (l : ℕ) (left : List Bool) (placed : List ℕ) (k : ℕ) → 0 < l → least_from (candidate answer t rows r left) 1 (length rows) ≡ Some k → fill answer t rows r l left placed ≡ fill answer t rows r (l - 1) (put left k false) (k ∷ placed)
+  -- the lowest level left is filled by the least candidate, if there is one
+  pub fill_level : (l : ℕ) (left : List Bool) (placed : List ℕ) (found : Option ℕ) → 0 < l → found ≡ least_from (candidate answer t rows r left) 1 (length rows) → fill answer t rows r l left placed ≡ bind found (λ k. fill answer t rows r (l - 1) (put left k false) (k ∷ placed))
   unfolding fill
-  fill_more zero left placed k h is = absurd (omega arith)
-  fill_more (suc l) left placed k h is = let z : suc l - 1 ≡ l = omega arith in rw (z, is) refl
-
-  pub fill_fails : (l : ℕ) (left : List Bool) (placed : List ℕ) → 0 < l → least_from (candidate answer t rows r left) 1 (length rows) ≡ None → fill answer t rows r l left placed ≡ None
-  unfolding fill
-  fill_fails zero left placed h is = absurd (omega arith)
-  fill_fails (suc l) left placed h is = rw is refl
+  fill_level zero left placed found h is = absurd (omega arith)
+  fill_level (suc l) left placed found h is = let z : suc l - 1 ≡ l = omega arith in rw (is, z) refl
 
   -- the order, once the loop over the levels has ended
   pub assigned_by : withinb rows r ≡ true → (n : ℕ) → n ≡ length rows → (found : Option (List ℕ)) → fill answer t rows r n (full n) [] ≡ found → assigned answer t rows r ≡ found

@@ -1,9 +1,12 @@
 // The assigner: Audsley's method for a range.
 ghost use Rattle.std.specs.Prelude.{◌≡◌, ◌≤◌, ◌&&◌, length, nat_le};
 ghost use Rattle.table.specs.Rows.{view};
+ghost use Rattle.bounds.specs.Responses.{least_from};
 ghost use Rattle.orders.specs.Assigner.{candidate, full, Assigns, Settles, FillsLowest};
 ghost use Rattle.orders.specs.Ranges.{withinb};
 ghost use Rattle.orders.specs.Relations.{Relations};
+
+use std::array;
 
 use crate::range::Range;
 use bounds::question::Question;
@@ -18,29 +21,19 @@ fn lies_within(row: Row, low: u32, high: u32) -> bool
     row.wcet() <= low && low <= high && high <= row.deadline()
 }
 
-// Whether this is a range of the rows.
-pub(crate) fn is_range(rows: &[Row], range: &Range) -> bool
-    requires { length rows.now ≤ 32 }
-    ensures { result ≡ withinb rows.now range.now }
+// Whether this is a range of the table.
+pub(crate) fn is_range(table: &Table<Row>, range: &Range) -> bool
+    ensures { result ≡ withinb (view table.now) range.now }
 {
-    for place in 0..rows.len() {
-        if !lies_within(rows[place], range.lows[place], range.highs[place]) {
-            return false;
-        }
-    }
-    true
+    let ends = range.lows.iter().zip(&range.highs);
+    table.rows().iter().zip(ends).all(|(&row, (&low, &high))| lies_within(row, low, high))
 }
 
-// All rows as a set.
+// All tasks of `rows` rows, as a set.
 fn all_tasks(rows: usize) -> [bool; 32]
-    requires { rows ≤ 32 }
     ensures { result ≡ full rows }
 {
-    let mut left = [false; 32];
-    for place in 0..rows {
-        left[place] = true;
-    }
-    left
+    array::from_fn(|place| place < rows)
 }
 
 // Whether an unplaced task passes below all the others.
@@ -59,17 +52,25 @@ fn passes_at<T: Test>(
     }
     let mut above = *left;
     above[k - 1] = false;
-    let lows = range.lows;
     let question = Question {
         table,
         task: k,
         above: &above,
-        estimates: &lows,
+        estimates: &range.lows,
     };
-    match test.ask(&question) {
-        Some(bound) => bound <= range.highs[k - 1],
-        None => false,
-    }
+    test.ask(&question).is_some_and(|bound| bound <= range.highs[k - 1])
+}
+
+// The lowest-numbered unplaced task that passes below all the others.
+fn lowest_passing<T: Test>(
+    test: &T,
+    table: &Table<Row>,
+    range: &Range,
+    left: &[bool; 32],
+) -> Option<usize>
+    ensures { result ≡ least_from (candidate T.answer test.now (view table.now) range.now left.now) 1 (length (view table.now)) }
+{
+    (1..=table.len()).find(|&k| passes_at(test, table, range, left, k))
 }
 
 /// An order that passes the range, the highest task first, if there is one. Levels are filled from
@@ -80,30 +81,16 @@ pub fn assign<T: Test>(test: &T, table: &Table<Row>, range: &Range) -> Option<[u
     ensures lowest { FillsLowest T.answer test.now (view table.now) range.now result }
     ensures relations { Relations T.answer test.now (view table.now) }
 {
-    let rows = table.len();
-    if !is_range(table.rows(), range) {
+    if !is_range(table, range) {
         return None;
     }
+    let rows = table.len();
     let mut left = all_tasks(rows);
     let mut order = [0; 32];
-    let mut level = rows;
-    'levels: loop {
-        if level < 1 {
-            break Some(order);
-        }
-        let mut tried = 0;
-        let task = 'candidates: loop {
-            if tried == rows {
-                break 'levels None;
-            }
-            let k = tried + 1;
-            if passes_at(test, table, range, &left, k) {
-                break k;
-            }
-            tried += 1;
-        };
-        level -= 1;
+    for level in (0..rows).rev() {
+        let task = lowest_passing(test, table, range, &left)?;
         left[task - 1] = false;
         order[level] = task;
     }
+    Some(order)
 }

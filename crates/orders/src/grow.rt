@@ -95,7 +95,7 @@ pub fn grow<T: Test>(test: &T, table: &Table<Row>, range: &Range) -> Range
     ensures narrowing { Narrowing T.answer test.now (view table.now) }
 {
     let mut grown = *range;
-    if !is_range(table.rows(), range) {
+    if !is_range(table, range) {
         return grown;
     }
     if !is_closed(test, table, range) {

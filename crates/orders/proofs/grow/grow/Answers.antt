@@ -12,7 +12,7 @@ pub returns-then-not-is_range : goal.returns-then-not-is_range
 returns-then-not-is_range g c =
     let rows = view c.args.table.now in
     let range = c.args.range.now in
-    let outside : Within rows range → ⊥ = λ within. false≢true (c.if-not-is_range.ensures ∙ ap (λ xs. withinb xs range) c.rows.ensures.value ∙ within_test rows range within) in
+    let outside : Within rows range → ⊥ = λ within. false≢true (c.if-not-is_range.ensures ∙ within_test rows range within) in
     record {
       rule = λ within closed. absurd (outside within);
       back = (λ o. refl, λ o. refl);
@@ -21,7 +21,7 @@ returns-then-not-is_range g c =
     }
 
 pub is_closed-requires : goal.is_closed-requires
-is_closed-requires g c = within_from (view c.args.table.now) c.args.range.now (sym (c.if-not-is_range.ensures ∙ ap (λ xs. withinb xs c.args.range.now) c.rows.ensures.value))
+is_closed-requires g c = within_from (view c.args.table.now) c.args.range.now (sym c.if-not-is_range.ensures)
 
 pub returns-then-not-is_closed : goal.returns-then-not-is_closed
 returns-then-not-is_closed g c =
@@ -37,7 +37,7 @@ returns-then-not-is_closed g c =
 pub loop-place-init : goal.loop-place-init
 loop-place-init g c = (
   start,
-  within_from (view c.args.table.now) c.args.range.now (sym (c.if-not-is_range.ensures ∙ ap (λ xs. withinb xs c.args.range.now) c.rows.ensures.value)),
+  within_from (view c.args.table.now) c.args.range.now (sym c.if-not-is_range.ensures),
   c.if-not-is_closed.ensures.0 refl,
 )
 
@@ -54,7 +54,7 @@ returns g c =
     let few = few_rows c.args.table.now in
     let end : c.loop-place.place ≡ length rows = omega (arith, c.len-place-end.ensures.rows) in
     let closed = c.if-not-is_closed.ensures.0 refl in
-    let inside = within_from rows range (sym (c.if-not-is_range.ensures ∙ ap (λ xs. withinb xs range) c.rows.ensures.value)) in
+    let inside = within_from rows range (sym c.if-not-is_range.ensures) in
     let grown : GrownTo g.T.Test.answer c.args.test.now rows range (length rows) c.loop-place.grown = subst (λ n. GrownTo g.T.Test.answer c.args.test.now rows range n c.loop-place.grown) end c.loop-place.invariant.0 in
     record {
       rule = λ within shut. grown;
