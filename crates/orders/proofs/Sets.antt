@@ -125,11 +125,11 @@ full_in (suc n) k low high few =
 pub full_by : (n : ℕ) (s : List Bool) → length s ≡ 32 → ((place : ℕ) → place < 32 → get_or s place false ≡ ltb place n) → s ≡ full n
 full_by n s long h =
     same_set s (full n) long (full_length n) (λ k low high.
-        nth_at s k false low ∙ h (k - 1) (omega arith)
-        ∙ elim (cases_lt n k) [
-          | inl past ↦ le-ltb (k - 1) n (omega arith) ∙ sym (full_out n k past)
-          | inr in' ↦ lt-ltb (k - 1) n (omega arith) ∙ sym (full_in n k low in' high)
-        ])
+    nth_at s k false low ∙ h (k - 1) (omega arith)
+    ∙ elim (cases_lt n k) [
+      | inl past ↦ le-ltb (k - 1) n (omega arith) ∙ sym (full_out n k past)
+      | inr in' ↦ lt-ltb (k - 1) n (omega arith) ∙ sym (full_in n k low in' high)
+    ])
 
 -- no number past the last row is among the first of an order
 pub first_out : (n : ℕ) (order : List ℕ) → Order n order → (p k : ℕ) → p ≤ n → n < k → nth (first order p) k false ≡ false

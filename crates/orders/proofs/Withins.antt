@@ -42,9 +42,9 @@ within_zipped rows r lows highs =
     let all : length (zip rows ends) ≡ length rows = omega (arith, length-zip rows ends) in
     sym (ap (list_all lies) (take_all (length rows) (zip rows ends) (omega arith)))
     ∙ all_to_list lies (liesb rows r) (zip rows ends) (filler, (0, 0)) (length rows) (omega arith) (λ i l.
-        ap lies (get_or-zip rows ends i (filler, (0, 0)) l (omega arith))
-        ∙ ap (λ e. lies (get_or rows i filler, e)) (get_or-zip r.lows r.highs i (0, 0) (omega arith) (omega arith))
-        ∙ sym (rw (nth_next rows i filler, nth_next r.lows i 0, nth_next r.highs i 0) refl))
+    ap lies (get_or-zip rows ends i (filler, (0, 0)) l (omega arith))
+    ∙ ap (λ e. lies (get_or rows i filler, e)) (get_or-zip r.lows r.highs i (0, 0) (omega arith) (omega arith))
+    ∙ sym (rw (nth_next rows i filler, nth_next r.lows i 0, nth_next r.highs i 0) refl))
 
 pub within_from : (rows : List Row) (r : Range) → withinb rows r ≡ true → Within rows r
 within_from rows r h k names =

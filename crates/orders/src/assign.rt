@@ -6,11 +6,10 @@ ghost use Rattle.orders.specs.Assigner.{candidate, full, Assigns, Settles, Fills
 ghost use Rattle.orders.specs.Ranges.{withinb};
 ghost use Rattle.orders.specs.Relations.{Relations};
 
-use std::array;
-
 use crate::range::Range;
 use bounds::question::Question;
 use bounds::test::Test;
+use std::array;
 use table::row::Row;
 use table::rows::Table;
 
@@ -26,7 +25,11 @@ pub(crate) fn is_range(table: &Table<Row>, range: &Range) -> bool
     ensures { result ≡ withinb (view table.now) range.now }
 {
     let ends = range.lows.iter().zip(&range.highs);
-    table.rows().iter().zip(ends).all(|(&row, (&low, &high))| lies_within(row, low, high))
+    table
+        .rows()
+        .iter()
+        .zip(ends)
+        .all(|(&row, (&low, &high))| lies_within(row, low, high))
 }
 
 // All tasks of `rows` rows, as a set.
@@ -36,41 +39,45 @@ fn all_tasks(rows: usize) -> [bool; 32]
     array::from_fn(|place| place < rows)
 }
 
-// Whether an unplaced task passes below all the others.
-fn passes_at<T: Test>(
-    test: &T,
-    table: &Table<Row>,
-    range: &Range,
-    left: &[bool; 32],
-    k: usize,
-) -> bool
-    requires { (1 ≤ k) × (k ≤ 32) }
-    ensures { result ≡ candidate T.answer test.now (view table.now) range.now left.now k }
-{
-    if !left[k - 1] {
-        return false;
-    }
-    let mut above = *left;
-    above[k - 1] = false;
-    let question = Question {
-        table,
-        task: k,
-        above: &above,
-        estimates: &range.lows,
-    };
-    test.ask(&question).is_some_and(|bound| bound <= range.highs[k - 1])
+// A range of a table, and the test that an order of its tasks is to pass.
+#[derive(Drop)]
+struct Assigner<'a, T> {
+    test: &'a T,
+    table: &'a Table<Row>,
+    range: &'a Range,
 }
 
-// The lowest-numbered unplaced task that passes below all the others.
-fn lowest_passing<T: Test>(
-    test: &T,
-    table: &Table<Row>,
-    range: &Range,
-    left: &[bool; 32],
-) -> Option<usize>
-    ensures { result ≡ least_from (candidate T.answer test.now (view table.now) range.now left.now) 1 (length (view table.now)) }
-{
-    (1..=table.len()).find(|&k| passes_at(test, table, range, left, k))
+impl<T: Test> Assigner<'_, T> {
+    // Whether an unplaced task passes below all the others.
+    fn passes(&self, left: &[bool; 32], k: usize) -> bool
+        requires { (1 ≤ k) × (k ≤ 32) }
+        ensures { let rows = view self.now.table.now in
+            result ≡ candidate T.answer self.now.test.now rows self.now.range.now left.now k }
+    {
+        if !left[k - 1] {
+            return false;
+        }
+        let mut above = *left;
+        above[k - 1] = false;
+        let question = Question {
+            table: self.table,
+            task: k,
+            above: &above,
+            estimates: &self.range.lows,
+        };
+        self.test
+            .ask(&question)
+            .is_some_and(|bound| bound <= self.range.highs[k - 1])
+    }
+
+    // The lowest-numbered unplaced task that passes below all the others.
+    fn lowest_passing(&self, left: &[bool; 32]) -> Option<usize>
+        ensures { let rows = view self.now.table.now in
+            let passes = candidate T.answer self.now.test.now rows self.now.range.now left.now in
+            result ≡ least_from passes 1 (length rows) }
+    {
+        (1..=self.table.len()).find(|&k| self.passes(left, k))
+    }
 }
 
 /// An order that passes the range, the highest task first, if there is one. Levels are filled from
@@ -84,11 +91,12 @@ pub fn assign<T: Test>(test: &T, table: &Table<Row>, range: &Range) -> Option<[u
     if !is_range(table, range) {
         return None;
     }
+    let assigner = Assigner { test, table, range };
     let rows = table.len();
     let mut left = all_tasks(rows);
     let mut order = [0; 32];
     for level in (0..rows).rev() {
-        let task = lowest_passing(test, table, range, &left)?;
+        let task = assigner.lowest_passing(&left)?;
         left[task - 1] = false;
         order[level] = task;
     }
