@@ -34,8 +34,30 @@ module _ {T : Type 0} {answer : T → List Row → ℕ → List Bool → List �
   pub open_or_closed : (r : Range) → Within rows r → Open answer t rows r ⊎ Shut r
   open_or_closed r within = by_answer r within (assigned answer t rows r) refl
 
+  grown_at : (end : End) (r : Range) → Within rows r → (k : ℕ) → Names rows k → (q : Range) → MovedOut answer t rows end r k 0 q → Shut q → EndGrown answer t rows end r k q
+  grown_at Low r within k names q out shut = record {
+    value = low r k - out.by;
+    is = out.is;
+    least = omega (arith, out.fits, (within k names).0);
+    closed = shut;
+    below = λ v a b closed. out.opens (low r k - v) (omega arith) (omega arith) (subst (λ x. Shut (with_low r k x)) (omega (arith, (within k names).0)) closed);
+  }
+  grown_at High r within k names q out shut = record {
+    value = high r k + out.by;
+    is = out.is;
+    greatest = omega (arith, out.fits, (within k names).2);
+    closed = shut;
+    above = λ v a b closed. out.opens (v - high r k) (omega arith) (omega arith) (subst (λ x. Shut (with_high r k x)) (omega arith) closed);
+  }
+
   -- the halving
-  module _ (end : End) (r : Range) (within : Within rows r) (k : ℕ) (names : Names rows k) where
+  module _ (end : End) (r : Range) (within : Within rows r) (place : ℕ) (inside : place < length rows) where
+    abbrev k : ℕ
+    k = place + 1
+
+    abbrev names : Names rows k
+    names = (omega arith, omega arith)
+
     pub out_none : MovedOut answer t rows end r k (span end rows r k) r
     out_none = record { by = 0; is = sym (moved_none end r k names.0); fits = omega arith; opens = λ b far near. absurd (omega arith) }
 
@@ -59,26 +81,13 @@ module _ {T : Type 0} {answer : T → List Row → ℕ → List Bool → List �
       fits = omega (arith, out.fits);
       opens = λ b far near closed.
           let here : moved end q k step ≡ moved end r k (out.by + step) = ap (λ x. moved end x k step) out.is ∙ moved_twice rows r within k names end out.by step in
-          let inside = moved_within rows r within k names end (out.by + step) (omega (arith, out.fits)) in
-          opened (subst (Within rows) (sym here) inside)
-          (subst Shut (sym here) (narrowing laws t rows few (moved end r k b) (moved end r k (out.by + step)) (moved_within rows r within k names end b near) inside (moved_contains rows r within k names end (out.by + step) b (omega arith)) closed));
+          let lies = moved_within rows r within k names end (out.by + step) (omega (arith, out.fits)) in
+          opened (subst (Within rows) (sym here) lies)
+          (subst Shut (sym here) (narrowing laws t rows few (moved end r k b) (moved end r k (out.by + step)) (moved_within rows r within k names end b near) lies (moved_contains rows r within k names end (out.by + step) b (omega arith)) closed));
     }
 
-  pub end_grown : (end : End) (r : Range) → Within rows r → (k : ℕ) → Names rows k → (q : Range) → MovedOut answer t rows end r k 0 q → Shut q → EndGrown answer t rows end r k q
-  end_grown Low r within k names q out shut = record {
-    value = low r k - out.by;
-    is = out.is;
-    least = omega (arith, out.fits, (within k names).0);
-    closed = shut;
-    below = λ v a b closed. out.opens (low r k - v) (omega arith) (omega arith) (subst (λ x. Shut (with_low r k x)) (omega (arith, (within k names).0)) closed);
-  }
-  end_grown High r within k names q out shut = record {
-    value = high r k + out.by;
-    is = out.is;
-    greatest = omega (arith, out.fits, (within k names).2);
-    closed = shut;
-    above = λ v a b closed. out.opens (v - high r k) (omega arith) (omega arith) (subst (λ x. Shut (with_high r k x)) (omega arith) closed);
-  }
+    pub end_grown : (q : Range) → MovedOut answer t rows end r k 0 q → Shut q → EndGrown answer t rows end r k q
+    end_grown = grown_at end r within k names
 
   -- a row more is grown, counted from 0
   pub grown_next : (r : Range) (place : ℕ) (before lower after : Range) → GrownTo answer t rows r place before → LowGrown answer t rows before (place + 1) lower → HighGrown answer t rows lower (place + 1) after → GrownTo answer t rows r (place + 1) after

@@ -39,7 +39,7 @@ fn all_tasks(rows: usize) -> [bool; 32]
     array::from_fn(|place| place < rows)
 }
 
-// A range of a table, and the test that an order of its tasks is to pass.
+// What the assigner is asked: a range of a table, and a test.
 #[derive(Drop)]
 struct Assigner<'a, T> {
     test: &'a T,

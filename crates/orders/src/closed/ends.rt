@@ -15,7 +15,8 @@ use table::rows::Table;
 impl<'a, T: Test> ClosedRange<'a, T> {
     // The range, where it is a range of the table and closed.
     pub(crate) fn new(test: &'a T, table: &'a Table<Row>, range: Range) -> Option<Self>
-        ensures some { IfSome result (λ q. (q.test.now ≡ test.now) × (q.table.now ≡ table.now) × (q.range ≡ range)) }
+        ensures some { IfSome result (λ q.
+            (q.test.now ≡ test.now) × (q.table.now ≡ table.now) × (q.range ≡ range)) }
         ensures none { let rows = view table.now in
             IfNone result (Within rows range → Closed T.answer test.now rows range → ⊥) }
     {

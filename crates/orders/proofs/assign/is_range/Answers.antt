@@ -1,4 +1,4 @@
-use Rattle.std.proofs.Common.{◌≡◌, ◌∙◌, length, rules, tests, arith}
+use Rattle.std.proofs.Common.{◌∙◌, rules, tests, arith}
 use Rattle.std.proofs.lemmas.Iterator.{YieldsList-from_slice, YieldsList-from_zip}
 use Rattle.std.proofs.lemmas.Iterator.Consumers.{YieldsList-at}
 use Rattle.std.proofs.lemmas.Iterator.Search.{all_from_yields_List}
@@ -11,7 +11,7 @@ returns c =
     let rows = view c.args.table.now in
     let range = c.args.range.now in
     let few = few_rows c.args.table.now in
-    let ends = YieldsList-from_zip (YieldsList-from_slice range.lows cc) (YieldsList-from_slice range.highs cc) in
-    let zipped = YieldsList-from_zip (YieldsList-from_slice rows cc) (YieldsList-at c.zip.ensures.second ends) in
-    all_from_yields_List lies c.all.new.self _ c.all.result c.all.ensures.ran zipped (λ x b q k. search (rules, tests))
+    all_from_yields_List lies c.all.new.self _ c.all.result c.all.ensures.ran
+    (YieldsList-from_zip (YieldsList-from_slice rows cc) (YieldsList-at c.zip.ensures.second (YieldsList-from_zip (YieldsList-from_slice range.lows cc) (YieldsList-from_slice range.highs cc))))
+    (λ x b q called. search (rules, tests))
     ∙ within_zipped rows range (omega arith) (omega arith)
