@@ -3,7 +3,7 @@ use Rattle.std.proofs.lemmas.List.{length-set, length-replicate, get_or-set_othe
 use Rattle.table.specs.Rows.{view}
 use Rattle.table.proofs.Placed.{put_at, nth_next, nth_replicate}
 use Rattle.bounds.specs.Leasts.{least_is}
-use Rattle.orders.specs.Assigner.{bind, fill, full, Assigns}
+use Rattle.orders.specs.Assigner.{fill, full, Assigns}
 use Rattle.orders.proofs.Audsley.{settles, fills_lowest}
 use Rattle.orders.proofs.Fills.{placed_more, placed_none, fill_none, fill_level, assigned_by, assigned_not}
 use Rattle.orders.proofs.Related.{related}

@@ -1,9 +1,8 @@
-use Rattle.std.proofs.Common.{◌≡◌, ℕ, ◌+◌, ◌-◌, ◌≤◌, List, sym, ap, ◌∙◌, subst, arith}
+use Rattle.std.proofs.Common.{◌+◌, ◌-◌, ◌≤◌, ap, arith}
 use Rattle.table.specs.Rows.{row, view}
 use Rattle.table.proofs.Placed.{nth_next}
-use Rattle.orders.specs.declared.range.Range.{Range}
 use Rattle.orders.specs.declared.end.End.TheVariants.{Low, High}
-use Rattle.orders.specs.Growth.{moved, span}
+use Rattle.orders.specs.Growth.{span}
 use Rattle.orders.proofs.Moves.{put_written}
 use Rattle.orders.proofs.closed.ClosedRange.moved.Goals as goal
 

@@ -1,7 +1,6 @@
-use Rattle.std.proofs.Common.{◌≡◌, sym, ◌∙◌, refl, rules}
+use Rattle.std.proofs.Common.{sym, ◌∙◌, rules}
 use Rattle.std.proofs.lemmas.Bool.{false≢true}
 use Rattle.table.specs.Rows.{view}
-use Rattle.orders.specs.Ranges.{Within, Closed}
 use Rattle.orders.proofs.Withins.{within_from, within_test}
 use Rattle.orders.proofs.closed.ClosedRange.new.Goals as goal
 use Rattle.orders.proofs.closed.ClosedRange.new.Goals.{then-not-is_range-via-then-not-is_range, then-not-is_range-via-else-not-is_range+then-is_some}
