@@ -1,5 +1,5 @@
 -- The assigner finds an order exactly when the range is open, from the laws alone.
-use Rattle.std.proofs.Common.{◌≡◌, ℕ, zero, suc, ◌+◌, ◌-◌, ◌<◌, ◌≤◌, Bool, true, false, List, [], ◌∷◌, ◌++◌, length, take, set, Some, None, Option, sym, refl, ap, ◌∙◌, subst, inl, inr, add-one, arith, MatchOption}
+use Rattle.std.proofs.Common.{option_and_then, ◌≡◌, ℕ, zero, suc, ◌+◌, ◌-◌, ◌<◌, ◌≤◌, Bool, true, false, List, [], ◌∷◌, ◌++◌, length, take, set, Some, None, Option, sym, refl, ap, ◌∙◌, subst, inl, inr, add-one, arith, MatchOption}
 use Rattle.std.proofs.lemmas.List.{append-nil, length-append, get_or_append_left, get_or_at, append_assoc, set_comm}
 use Rattle.std.proofs.lemmas.Option.{none-some}
 use Rattle.std.proofs.lemmas.Bool.{cases_Bool, cases_eq, cases_lt, cond-true, cond-false, and_parts, and_from, both_ways, leb-true, le-leb, false≢true}
@@ -15,7 +15,7 @@ use Rattle.bounds.proofs.Descents.{first_none, first_more}
 use Rattle.bounds.specs.Sounds.{in_low}
 use Rattle.orders.specs.declared.range.Range.{Range}
 use Rattle.orders.specs.Ranges.{high, Within, withinb, Passes, Admits, Closed}
-use Rattle.orders.specs.Assigner.{at_most, bind, full, candidate, fill, assigned, Assigns, Settles, LowestNumbered, FillsLowest}
+use Rattle.orders.specs.Assigner.{at_most, full, candidate, fill, assigned, Assigns, Settles, LowestNumbered, FillsLowest}
 use Rattle.orders.proofs.Sets.{out, was_in, still_in, put_back, first_length, member_first, not_first, every, same_set, first_same, count_all, count_out, none_in, full_length, full_in, full_out, first_out}
 use Rattle.orders.proofs.Withins.{within_test}
 
@@ -89,7 +89,7 @@ module _ {T : Type 0} {answer : T → List Row → ℕ → List Bool → List �
   abbrev Nothing : ℕ → Type 0
   Nothing l = (left : List Bool) (placed : List ℕ) → fill answer t rows r l left placed ≡ None → Fillable l left → ⊥
 
-  after : (l : ℕ) → Nothing l → (left : List Bool) (placed : List ℕ) (f : Option ℕ) → least_from (ok left) 1 (length rows) ≡ f → bind f (λ k. fill answer t rows r l (put left k false) (k ∷ placed)) ≡ None → Fillable (suc l) left → ⊥
+  after : (l : ℕ) → Nothing l → (left : List Bool) (placed : List ℕ) (f : Option ℕ) → least_from (ok left) 1 (length rows) ≡ f → option_and_then (λ k. fill answer t rows r l (put left k false) (k ∷ placed)) f ≡ None → Fillable (suc l) left → ⊥
   after l below left placed None was is (lowest k inside passed rest) = least_none (ok left) 1 (length rows) was k (ok_low left k passed) (omega arith) passed
   after l below left placed (Some p) was is o = below (put left p false) (p ∷ placed) is (exchange l left p (least_is (ok left) 1 (length rows) p was).2 o)
 
@@ -190,7 +190,7 @@ module _ {T : Type 0} {answer : T → List Row → ℕ → List Bool → List �
     abbrev Found' : ℕ → Type 0
     Found' l = (left : List Bool) (placed order : List ℕ) → Tasks left l → fill answer t rows r l left placed ≡ Some order → (front : List ℕ) × (order ≡ front ++ placed) × Ordered left front l
 
-    found_after : (l : ℕ) → Found' l → (left : List Bool) (placed order : List ℕ) (f : Option ℕ) → Tasks left (suc l) → least_from (ok left) 1 (length rows) ≡ f → bind f (λ k. fill answer t rows r l (put left k false) (k ∷ placed)) ≡ Some order → (front : List ℕ) × (order ≡ front ++ placed) × Ordered left front (suc l)
+    found_after : (l : ℕ) → Found' l → (left : List Bool) (placed order : List ℕ) (f : Option ℕ) → Tasks left (suc l) → least_from (ok left) 1 (length rows) ≡ f → option_and_then (λ k. fill answer t rows r l (put left k false) (k ∷ placed)) f ≡ Some order → (front : List ℕ) × (order ≡ front ++ placed) × Ordered left front (suc l)
     found_after l below left placed order None h was is = absurd (let o : ◌≡◌ {A = ℕ} 0 1 = cc in omega arith)
     found_after l below left placed order (Some k) h was is =
         let found = least_is (ok left) 1 (length rows) k was in

@@ -1,5 +1,5 @@
 -- Steps of the assigner's loop.
-use Rattle.std.proofs.Common.{◌≡◌, ℕ, zero, suc, ◌+◌, ◌-◌, ◌<◌, ◌≤◌, Bool, true, false, ◌&&◌, List, [], ◌∷◌, length, get_or, take, drop, set, Some, None, Option, sym, refl, ap, ◌∙◌, arith}
+use Rattle.std.proofs.Common.{option_and_then, ◌≡◌, ℕ, zero, suc, ◌+◌, ◌-◌, ◌<◌, ◌≤◌, Bool, true, false, ◌&&◌, List, [], ◌∷◌, length, get_or, take, drop, set, Some, None, Option, sym, refl, ap, ◌∙◌, arith}
 use lib.Seq.{take-set-lt}
 use Rattle.std.proofs.lemmas.List.{drop-set, length-take-le, drop_all}
 use Rattle.std.proofs.lemmas.Bool.{cond-true, cond-false}
@@ -9,7 +9,7 @@ use Rattle.table.proofs.Placed.{nth_at, put_at}
 use Rattle.bounds.specs.Responses.{least_from}
 use Rattle.orders.specs.declared.range.Range.{Range}
 use Rattle.orders.specs.Ranges.{high, withinb}
-use Rattle.orders.specs.Assigner.{at_most, bind, full, candidate, fill, assigned}
+use Rattle.orders.specs.Assigner.{at_most, full, candidate, fill, assigned}
 
 -- the tasks placed so far, once one more is placed above them
 pub placed_more : (tasks : List ℕ) (n level k : ℕ) → 0 < level → level ≤ n → n ≤ length tasks → k ∷ drop level (take n tasks) ≡ drop (level - 1) (take n (set tasks (level - 1) k))
@@ -40,7 +40,7 @@ module _ {T : Type 0} (answer : T → List Row → ℕ → List Bool → List �
   fill_none l left placed z = rw z refl
 
   -- the lowest level left is filled by the least candidate, if there is one
-  pub fill_level : (l : ℕ) (left : List Bool) (placed : List ℕ) (found : Option ℕ) → 0 < l → found ≡ least_from (candidate answer t rows r left) 1 (length rows) → fill answer t rows r l left placed ≡ bind found (λ k. fill answer t rows r (l - 1) (put left k false) (k ∷ placed))
+  pub fill_level : (l : ℕ) (left : List Bool) (placed : List ℕ) (found : Option ℕ) → 0 < l → found ≡ least_from (candidate answer t rows r left) 1 (length rows) → fill answer t rows r l left placed ≡ option_and_then (λ k. fill answer t rows r (l - 1) (put left k false) (k ∷ placed)) found
   unfolding fill
   fill_level zero left placed found h is = absurd (omega arith)
   fill_level (suc l) left placed found h is = let z : suc l - 1 ≡ l = omega arith in rw (is, z) refl

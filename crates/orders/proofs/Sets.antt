@@ -35,13 +35,6 @@ was_in s k j y =
 pub still_in : (s : List Bool) (k j : ℕ) → (j ≡ k → ⊥) → In s j → In (put s k false) j
 still_in s k j d y = nth_put_other s k j false false d ∙ y
 
-pub in_high : (s : List Bool) (k : ℕ) → In s k → k ≤ length s
-in_high s k y =
-    elim (cases_lt (length s) k) [
-      | inl past ↦ absurd (both_ways _ (nth_at s k false (omega arith) ∙ get_or_past s (k - 1) false (omega arith)) y)
-      | inr in' ↦ in'
-    ]
-
 -- out and in again, or in and out again, leaves the set as it was
 pub put_back : (s : List Bool) (k : ℕ) (b : Bool) → nth s k false ≡ b → 1 ≤ k → put (put s k (not b)) k b ≡ s
 put_back s k b is low =
