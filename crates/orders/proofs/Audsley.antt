@@ -1,7 +1,8 @@
 -- The assigner finds an order exactly when the range is open, from the laws alone.
-use Rattle.std.proofs.Common.{◌≡◌, ℕ, zero, suc, ◌+◌, ◌-◌, ◌<◌, ◌≤◌, Bool, true, false, List, [], ◌∷◌, ◌++◌, length, set, Some, None, Option, sym, refl, ap, ◌∙◌, subst, inl, inr, add-one, arith, MatchOption}
+use Rattle.std.proofs.Common.{option_and_then, ◌≡◌, ℕ, zero, suc, ◌+◌, ◌-◌, ◌<◌, ◌≤◌, Bool, true, false, List, [], ◌∷◌, ◌++◌, length, take, set, Some, None, Option, sym, refl, ap, ◌∙◌, subst, inl, inr, add-one, arith, MatchOption}
 use Rattle.std.proofs.lemmas.List.{append-nil, length-append, get_or_append_left, get_or_at, append_assoc, set_comm}
-use Rattle.std.proofs.lemmas.Bool.{cases_eq, cases_lt, cond-true, and_parts, and_from, both_ways, leb-true, le-leb, false≢true}
+use Rattle.std.proofs.lemmas.Option.{none-some}
+use Rattle.std.proofs.lemmas.Bool.{cases_Bool, cases_eq, cases_lt, cond-true, cond-false, and_parts, and_from, both_ways, leb-true, le-leb, false≢true}
 use Rattle.table.specs.declared.row.Row.{Row}
 use Rattle.table.specs.Places.{nth, put}
 use Rattle.table.proofs.Placed.{put_at, nth_put_same, nth_put_other, nth_replicate, length_put}
@@ -14,7 +15,7 @@ use Rattle.bounds.proofs.Descents.{first_none, first_more}
 use Rattle.bounds.specs.Sounds.{in_low}
 use Rattle.orders.specs.declared.range.Range.{Range}
 use Rattle.orders.specs.Ranges.{high, Within, withinb, Passes, Admits, Closed}
-use Rattle.orders.specs.Assigner.{at_most, bind, full, candidate, fill, assigned, LowestNumbered}
+use Rattle.orders.specs.Assigner.{at_most, full, candidate, fill, assigned, Assigns, Settles, LowestNumbered, FillsLowest}
 use Rattle.orders.proofs.Sets.{out, was_in, still_in, put_back, first_length, member_first, not_first, every, same_set, first_same, count_all, count_out, none_in, full_length, full_in, full_out, first_out}
 use Rattle.orders.proofs.Withins.{within_test}
 
@@ -88,7 +89,7 @@ module _ {T : Type 0} {answer : T → List Row → ℕ → List Bool → List �
   abbrev Nothing : ℕ → Type 0
   Nothing l = (left : List Bool) (placed : List ℕ) → fill answer t rows r l left placed ≡ None → Fillable l left → ⊥
 
-  after : (l : ℕ) → Nothing l → (left : List Bool) (placed : List ℕ) (f : Option ℕ) → least_from (ok left) 1 (length rows) ≡ f → bind f (λ k. fill answer t rows r l (put left k false) (k ∷ placed)) ≡ None → Fillable (suc l) left → ⊥
+  after : (l : ℕ) → Nothing l → (left : List Bool) (placed : List ℕ) (f : Option ℕ) → least_from (ok left) 1 (length rows) ≡ f → option_and_then (λ k. fill answer t rows r l (put left k false) (k ∷ placed)) f ≡ None → Fillable (suc l) left → ⊥
   after l below left placed None was is (lowest k inside passed rest) = least_none (ok left) 1 (length rows) was k (ok_low left k passed) (omega arith) passed
   after l below left placed (Some p) was is o = below (put left p false) (p ∷ placed) is (exchange l left p (least_is (ok left) 1 (length rows) p was).2 o)
 
@@ -116,7 +117,7 @@ module _ {T : Type 0} {answer : T → List Row → ℕ → List Bool → List �
     first_full : first order (length rows) ≡ full (length rows)
     first_full = same_set _ _ (first_length order (length rows)) (full_length (length rows)) (λ k a b. elim (cases_lt (length rows) k) [
       | inl past ↦ first_out (length rows) order o (length rows) k (omega arith) past ∙ sym (full_out (length rows) k past)
-      | inr in' ↦ every (length rows) few order o k a in' ∙ sym (full_in (length rows) few k a in')
+      | inr in' ↦ every (length rows) few order o k a in' ∙ sym (full_in (length rows) k a in' b)
     ])
 
     pub not_none : fill answer t rows r (length rows) (full (length rows)) [] ≡ None → ⊥
@@ -189,7 +190,7 @@ module _ {T : Type 0} {answer : T → List Row → ℕ → List Bool → List �
     abbrev Found' : ℕ → Type 0
     Found' l = (left : List Bool) (placed order : List ℕ) → Tasks left l → fill answer t rows r l left placed ≡ Some order → (front : List ℕ) × (order ≡ front ++ placed) × Ordered left front l
 
-    found_after : (l : ℕ) → Found' l → (left : List Bool) (placed order : List ℕ) (f : Option ℕ) → Tasks left (suc l) → least_from (ok left) 1 (length rows) ≡ f → bind f (λ k. fill answer t rows r l (put left k false) (k ∷ placed)) ≡ Some order → (front : List ℕ) × (order ≡ front ++ placed) × Ordered left front (suc l)
+    found_after : (l : ℕ) → Found' l → (left : List Bool) (placed order : List ℕ) (f : Option ℕ) → Tasks left (suc l) → least_from (ok left) 1 (length rows) ≡ f → option_and_then (λ k. fill answer t rows r l (put left k false) (k ∷ placed)) f ≡ Some order → (front : List ℕ) × (order ≡ front ++ placed) × Ordered left front (suc l)
     found_after l below left placed order None h was is = absurd (let o : ◌≡◌ {A = ℕ} 0 1 = cc in omega arith)
     found_after l below left placed order (Some k) h was is =
         let found = least_is (ok left) 1 (length rows) k was in
@@ -208,7 +209,7 @@ module _ {T : Type 0} {answer : T → List Row → ℕ → List Bool → List �
     found_all (suc l) left placed order h is = found_after l (found_all l) left placed order (least_from (ok left) 1 (length rows)) h refl is
 
     all_tasks : Tasks (full (length rows)) (length rows)
-    all_tasks = record { long = full_length (length rows); count = count_all (full (length rows)) (length rows) (full_in (length rows) few); named = full_out (length rows) }
+    all_tasks = record { long = full_length (length rows); count = count_all (full (length rows)) (length rows) (λ k a b. full_in (length rows) k a b (omega arith)); named = full_out (length rows) }
 
     -- what is found lists every row once and passes
     pub found_admits : (order : List ℕ) → fill answer t rows r (length rows) (full (length rows)) [] ≡ Some order → Admits answer t rows r order
@@ -230,10 +231,25 @@ module _ {T : Type 0} {answer : T → List Row → ℕ → List Bool → List �
         subst (LowestNumbered answer t rows r) (sym (found.1 ∙ append-nil found.0))
         (λ p l k below member passes. found.2.lowest p l k (in_low _ k member) below (and_from (nth (first found.0 (p + 1)) k false) _ member (at_most_test _ _ passes)))
 
-    pub lowest_numbered : withinb rows r ≡ true → (order : List ℕ) → assigned answer t rows r ≡ Some order → LowestNumbered answer t rows r order
-    lowest_numbered within order is = found_lowest order (sym (cond-true (withinb rows r) _ None within) ∙ is)
+    a_range : (order : List ℕ) → assigned answer t rows r ≡ Some order → withinb rows r ≡ true
+    a_range order is =
+        elim (cases_Bool (withinb rows r)) [
+          | inl y ↦ y
+          | inr z ↦ absurd (none-some order (sym (cond-false (withinb rows r) _ None z) ∙ is))
+        ]
 
     -- the range is decided
     pub decided : Within rows r → (found : Option (List ℕ)) → assigned answer t rows r ≡ found → MatchOption found (Closed answer t rows r) (λ order. Admits answer t rows r order)
     decided within None is = λ order admits. not_none few order admits.0 admits.1 (sym (cond-true (withinb rows r) _ None (within_test rows r within)) ∙ is)
     decided within (Some order) is = found_admits order (sym (cond-true (withinb rows r) _ None (within_test rows r within)) ∙ is)
+
+    -- what follows from the assigner's rule
+    pub settles : (found : Option (List ℕ)) → Assigns answer t rows r found → Settles answer t rows r found
+    settles None is within = decided within None is
+    settles (Some tasks) is within = decided within (Some (take (length rows) tasks)) is.0
+
+    pub fills_lowest : (found : Option (List ℕ)) → Assigns answer t rows r found → FillsLowest answer t rows r found
+    fills_lowest None is = tt
+    fills_lowest (Some tasks) is =
+        let order = take (length rows) tasks in
+        found_lowest order (sym (cond-true (withinb rows r) _ None (a_range order is.0)) ∙ is.0)

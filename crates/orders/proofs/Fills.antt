@@ -1,43 +1,19 @@
--- Steps of the assigner's loops.
-use Rattle.std.proofs.Common.{◌≡◌, ℕ, zero, suc, ◌+◌, ◌-◌, ◌<◌, ◌≤◌, Bool, true, false, ◌&&◌, List, [], ◌∷◌, length, get_or, take, drop, set, replicate, Some, None, Option, sym, refl, ap, ◌∙◌, add-one, arith}
+-- Steps of the assigner's loop.
+use Rattle.std.proofs.Common.{option_and_then, ◌≡◌, ℕ, zero, suc, ◌+◌, ◌-◌, ◌<◌, ◌≤◌, Bool, true, false, List, [], ◌∷◌, length, get_or, take, drop, set, replicate, Some, None, Option, sym, refl, ap, ◌∙◌, arith}
 use lib.Seq.{take-set-lt}
-use Rattle.std.proofs.lemmas.List.{drop-set, length-take-le, drop_all}
+use Rattle.std.proofs.lemmas.List.{drop-set, length-take-le, drop_all, length-set, length-replicate, get_or-set_other}
 use Rattle.std.proofs.lemmas.Bool.{cond-true, cond-false}
 use Rattle.table.specs.declared.row.Row.{Row}
 use Rattle.table.specs.Places.{put}
-use Rattle.table.proofs.Placed.{nth_at, put_at}
+use Rattle.table.proofs.Placed.{nth_at, nth_next, put_at, nth_replicate}
 use Rattle.bounds.specs.Responses.{least_from}
 use Rattle.orders.specs.declared.range.Range.{Range}
-use Rattle.orders.specs.Ranges.{high, withinb}
-use Rattle.orders.specs.Assigner.{at_most, full, candidate, fill, assigned}
-
-pub full_none : full 0 ≡ replicate 32 false
-unfolding full
-full_none = refl
-
-pub full_more : (k : ℕ) → full (k + 1) ≡ set (full k) k true
-unfolding full
-full_more k = rw (add-one k) refl
-
--- what is left of the numbers gives the least
-module _ (p : ℕ → Bool) (k n : ℕ) where
-  some_left : k ≤ n → n + 1 - k ≡ suc (n + 1 - (k + 1))
-  some_left l = omega arith
-
-  pub least_end : n < k → least_from p k (n + 1 - k) ≡ None
-  unfolding least_from
-  least_end l = let z : n + 1 - k ≡ 0 = omega arith in rw z refl
-
-  pub least_here : k ≤ n → p k ≡ true → least_from p k (n + 1 - k) ≡ Some k
-  unfolding least_from
-  least_here l h = rw (some_left l) (cond-true (p k) (Some k) (least_from p (k + 1) (n + 1 - (k + 1))) h)
-
-  pub least_later : k ≤ n → p k ≡ false → least_from p k (n + 1 - k) ≡ least_from p (k + 1) (n + 1 - (k + 1))
-  unfolding least_from
-  least_later l h = rw (some_left l) (cond-false (p k) (Some k) (least_from p (k + 1) (n + 1 - (k + 1))) h)
+use Rattle.orders.specs.Ranges.{withinb}
+use Rattle.orders.specs.Assigner.{at_most, full, candidate, fill, assigned, Assigns}
+use Rattle.bounds.specs.Orders.{task_at}
 
 -- the tasks placed so far, once one more is placed above them
-pub placed_more : (tasks : List ℕ) (n level k : ℕ) → 0 < level → level ≤ n → n ≤ length tasks → k ∷ drop level (take n tasks) ≡ drop (level - 1) (take n (set tasks (level - 1) k))
+placed_more : (tasks : List ℕ) (n level k : ℕ) → 0 < level → level ≤ n → n ≤ length tasks → k ∷ drop level (take n tasks) ≡ drop (level - 1) (take n (set tasks (level - 1) k))
 placed_more tasks n level k pos le long =
     sym (
     ap (drop (level - 1)) (take-set-lt n tasks (level - 1) k (omega arith))
@@ -45,38 +21,60 @@ placed_more tasks n level k pos le long =
     ∙ ap (λ i. k ∷ drop i (take n tasks)) (let e : level - 1 + 1 ≡ level = omega arith in e)
     )
 
-pub placed_none : (tasks : List ℕ) (n : ℕ) → n ≤ length tasks → drop n (take n tasks) ≡ []
+placed_none : (tasks : List ℕ) (n : ℕ) → n ≤ length tasks → drop n (take n tasks) ≡ []
 placed_none tasks n long = drop_all n (take n tasks) (omega (arith, length-take-le n tasks long))
 
 module _ {T : Type 0} (answer : T → List Row → ℕ → List Bool → List ℕ → Option ℕ) (t : T) (rows : List Row) (r : Range) where
   -- a candidate by what was read
   pub candidate_read : (left : List Bool) (k : ℕ) (a : Option ℕ) → 1 ≤ k → get_or left (k - 1) false ≡ true → a ≡ answer t rows k (set left (k - 1) false) r.lows → candidate answer t rows r left k ≡ at_most a (get_or r.highs (k - 1) 0)
-  candidate_read left k a low y is =
-      ap (λ b. b && at_most (answer t rows k (put left k false) r.lows) (high r k)) (nth_at left k false low ∙ y)
-      ∙ ap (λ s. at_most (answer t rows k s r.lows) (high r k)) (put_at left k false low)
-      ∙ ap (λ x. at_most (answer t rows k (set left (k - 1) false) r.lows) x) (nth_at r.highs k 0 low)
-      ∙ ap (λ b. at_most b (get_or r.highs (k - 1) 0)) (sym is)
+  candidate_read left k a low y is = rw (nth_at left k false low, y, put_at left k false low, nth_at r.highs k 0 low, ← is) refl
 
   pub candidate_placed : (left : List Bool) (k : ℕ) → 1 ≤ k → get_or left (k - 1) false ≡ false → candidate answer t rows r left k ≡ false
-  candidate_placed left k low z = ap (λ b. b && at_most (answer t rows k (put left k false) r.lows) (high r k)) (nth_at left k false low ∙ z)
+  candidate_placed left k low z = rw (nth_at left k false low, z) refl
 
-  pub fill_none : (l : ℕ) (left : List Bool) (placed : List ℕ) → l ≡ 0 → fill answer t rows r l left placed ≡ Some placed
+  fill_none : (l : ℕ) (left : List Bool) (placed : List ℕ) → l ≡ 0 → fill answer t rows r l left placed ≡ Some placed
   unfolding fill
   fill_none l left placed z = rw z refl
 
-  pub fill_more : (l : ℕ) (left : List Bool) (placed : List ℕ) (k : ℕ) → 0 < l → least_from (candidate answer t rows r left) 1 (length rows) ≡ Some k → fill answer t rows r l left placed ≡ fill answer t rows r (l - 1) (put left k false) (k ∷ placed)
+  -- the lowest level left is filled by the least candidate, if there is one
+  fill_level : (l : ℕ) (left : List Bool) (placed : List ℕ) (found : Option ℕ) → 0 < l → found ≡ least_from (candidate answer t rows r left) 1 (length rows) → fill answer t rows r l left placed ≡ option_and_then (λ k. fill answer t rows r (l - 1) (put left k false) (k ∷ placed)) found
   unfolding fill
-  fill_more zero left placed k h is = absurd (omega arith)
-  fill_more (suc l) left placed k h is = let z : suc l - 1 ≡ l = omega arith in rw (z, is) refl
-
-  pub fill_fails : (l : ℕ) (left : List Bool) (placed : List ℕ) → 0 < l → least_from (candidate answer t rows r left) 1 (length rows) ≡ None → fill answer t rows r l left placed ≡ None
-  unfolding fill
-  fill_fails zero left placed h is = absurd (omega arith)
-  fill_fails (suc l) left placed h is = rw is refl
-
-  -- the order, once the loop over the levels has ended
-  pub assigned_by : withinb rows r ≡ true → (n : ℕ) → n ≡ length rows → (found : Option (List ℕ)) → fill answer t rows r n (full n) [] ≡ found → assigned answer t rows r ≡ found
-  assigned_by within n e found is = cond-true (withinb rows r) _ None within ∙ ap (λ m. fill answer t rows r m (full m) []) (sym e) ∙ is
+  fill_level zero left placed found h is = absurd (omega arith)
+  fill_level (suc l) left placed found h is = let z : suc l - 1 ≡ l = omega arith in rw (is, z) refl
 
   pub assigned_not : withinb rows r ≡ false → assigned answer t rows r ≡ None
   assigned_not z = cond-false (withinb rows r) (fill answer t rows r (length rows) (full (length rows)) []) None z
+
+  -- The levels from this one up are filled: with what is left below, they give the assigner's order.
+  pub record Filling (level : ℕ) (left : List Bool) (order : List ℕ) : Type 0 where
+    long : length order ≡ 32
+    rest : fill answer t rows r level left (drop level (take (length rows) order)) ≡ fill answer t rows r (length rows) (full (length rows)) []
+    past : (p : ℕ) → length rows ≤ p → task_at order p ≡ 0
+
+  module _ (few : length rows ≤ 32) where
+    pub filling_none : (level : ℕ) (left : List Bool) → level ≡ length rows → left ≡ full level → Filling level left (replicate 32 0)
+    filling_none level left e is = record {
+      long = length-replicate {A = ℕ} 32 0;
+      rest = rw (is, e) (ap (fill answer t rows r (length rows) (full (length rows))) (placed_none (replicate 32 0) (length rows) (omega (arith, length-replicate {A = ℕ} 32 0))));
+      past = λ p _. sym (nth_next (replicate 32 0) p 0) ∙ nth_replicate 32 0 (p + 1);
+    }
+
+    module _ (level : ℕ) (left : List Bool) (order : List ℕ) (filling : Filling level left order) (pos : 0 < level) (le : level ≤ length rows) where
+      abbrev placed : List ℕ
+      placed = drop level (take (length rows) order)
+
+      pub filling_more : (k : ℕ) → 1 ≤ k → Some k ≡ least_from (candidate answer t rows r left) 1 (length rows) → Filling (level - 1) (set left (k - 1) false) (set order (level - 1) k)
+      filling_more k low is = record {
+        long = length-set order (level - 1) k ∙ filling.long;
+        rest = rw (← placed_more order (length rows) level k pos le (omega (arith, filling.long)), ← put_at left k false low) (sym (fill_level level left placed (Some k) pos is) ∙ filling.rest);
+        past = λ p out. get_or-set_other order (level - 1) p k 0 (λ e. omega arith) ∙ filling.past p out;
+      }
+
+      pub filling_fails : withinb rows r ≡ true → None ≡ least_from (candidate answer t rows r left) 1 (length rows) → assigned answer t rows r ≡ None
+      filling_fails within is = cond-true (withinb rows r) _ None within ∙ sym filling.rest ∙ fill_level level left placed None pos is
+
+  pub filling_all : (level : ℕ) (left : List Bool) (order : List ℕ) → Filling level left order → withinb rows r ≡ true → level ≡ 0 → Assigns answer t rows r (Some order)
+  filling_all level left order filling within e = (
+    cond-true (withinb rows r) _ None within ∙ sym filling.rest ∙ fill_none level left (drop level (take (length rows) order)) e ∙ ap (λ l. Some (drop l (take (length rows) order))) e,
+    filling.past,
+  )

@@ -10,10 +10,17 @@ use Rattle.orders.specs.declared.end.End.{End}
 use Rattle.orders.specs.declared.end.End.TheVariants.{Low, High}
 use Rattle.orders.specs.Ranges.{low, high, Within, Contains, Open, Closed}
 use Rattle.orders.specs.Assigner.{assigned}
-use Rattle.orders.specs.Growth.{with_low, with_high, moved, span, Reaches, LowGrown, HighGrown, EndGrown, GrownTo, start, next, Maximal}
+use Rattle.orders.specs.Growth.{with_low, with_high, moved, span, LowGrown, HighGrown, EndGrown, GrownTo, start, next, Maximal}
 use Rattle.orders.proofs.Audsley.{decided}
-use Rattle.orders.proofs.Moves.{low_here, high_here, within_low, within_high, contains_by_low, contains_by_high, moved_within, moved_contains, moved_none}
+use Rattle.orders.proofs.Moves.{low_here, high_here, within_low, within_high, contains_by_low, contains_by_high, moved_within, moved_contains, moved_none, moved_twice, span_moved}
 use Rattle.orders.proofs.Narrows.{narrowing}
+
+-- An end of row k has been moved out, and there is this much room left to move it: any farther leaves the range open.
+pub record MovedOut {T : Type 0} (answer : T → List Row → ℕ → List Bool → List ℕ → Option ℕ) (t : T) (rows : List Row) (end : End) (r : Range) (k room : ℕ) (q : Range) : Type 0 where
+  by : ℕ
+  is : q ≡ moved end r k by
+  fits : by + room ≤ span end rows r k
+  opens : (b : ℕ) → by + room < b → b ≤ span end rows r k → Closed answer t rows (moved end r k b) → ⊥
 
 module _ {T : Type 0} {answer : T → List Row → ℕ → List Bool → List ℕ → Option ℕ} (laws : Laws answer) (t : T) (rows : List Row) (few : length rows ≤ 32) where
   abbrev Shut : Range → Type 0
@@ -27,30 +34,60 @@ module _ {T : Type 0} {answer : T → List Row → ℕ → List Bool → List �
   pub open_or_closed : (r : Range) → Within rows r → Open answer t rows r ⊎ Shut r
   open_or_closed r within = by_answer r within (assigned answer t rows r) refl
 
+  grown_at : (end : End) (r : Range) → Within rows r → (k : ℕ) → Names rows k → (q : Range) → MovedOut answer t rows end r k 0 q → Shut q → EndGrown answer t rows end r k q
+  grown_at Low r within k names q out shut = record {
+    value = low r k - out.by;
+    is = out.is;
+    least = omega (arith, out.fits, (within k names).0);
+    closed = shut;
+    below = λ v a b closed. out.opens (low r k - v) (omega arith) (omega arith) (subst (λ x. Shut (with_low r k x)) (omega (arith, (within k names).0)) closed);
+  }
+  grown_at High r within k names q out shut = record {
+    value = high r k + out.by;
+    is = out.is;
+    greatest = omega (arith, out.fits, (within k names).2);
+    closed = shut;
+    above = λ v a b closed. out.opens (v - high r k) (omega arith) (omega arith) (subst (λ x. Shut (with_high r k x)) (omega arith) closed);
+  }
+
   -- the halving
-  module _ (r : Range) (within : Within rows r) (k : ℕ) (names : Names rows k) (end : End) where
-    pub reach_start : Shut r → Shut (moved end r k 0)
-    reach_start closed = narrowing laws t rows few r (moved end r k 0) within (moved_within rows r within k names end 0 (omega arith)) (moved_none rows r within k names end) closed
+  module _ (end : End) (r : Range) (within : Within rows r) (place : ℕ) (inside : place < length rows) where
+    abbrev k : ℕ
+    k = place + 1
+
+    abbrev names : Names rows k
+    names = (omega arith, omega arith)
+
+    pub out_none : MovedOut answer t rows end r k (span end rows r k) r
+    out_none = record { by = 0; is = sym (moved_none end r k names.0); fits = omega arith; opens = λ b far near. absurd (omega arith) }
+
+    -- what is left of the span
+    pub room_left : (room : ℕ) (q : Range) → MovedOut answer t rows end r k room q → room ≤ span end rows q k
+    room_left room q out = omega (arith, out.fits, ap (λ x. span end rows x k) out.is ∙ span_moved rows r within k names end out.by)
+
+    pub out_more : (room step : ℕ) (q wider : Range) → MovedOut answer t rows end r k room q → step ≤ room → wider ≡ moved end q k step → MovedOut answer t rows end r k (room - step) wider
+    out_more room step q wider out le is = record {
+      by = out.by + step;
+      is = is ∙ ap (λ x. moved end x k step) out.is ∙ moved_twice rows r within k names end out.by step;
+      fits = omega (arith, out.fits);
+      opens = λ b far near. out.opens b (omega arith) near;
+    }
 
     -- what is open stays open farther out
-    pub open_farther : (a b : ℕ) → a ≤ b → b ≤ span end rows r k → (Shut (moved end r k a) → ⊥) → Shut (moved end r k b) → ⊥
-    open_farther a b le h no' closed = no' (narrowing laws t rows few (moved end r k b) (moved end r k a) (moved_within rows r within k names end b h) (moved_within rows r within k names end a (omega arith)) (moved_contains rows r within k names end a b le) closed)
+    pub out_less : (room step : ℕ) (q : Range) → MovedOut answer t rows end r k room q → 1 ≤ step → step ≤ room → (Within rows (moved end q k step) → Shut (moved end q k step) → ⊥) → MovedOut answer t rows end r k (step - 1) q
+    out_less room step q out pos le opened = record {
+      by = out.by;
+      is = out.is;
+      fits = omega (arith, out.fits);
+      opens = λ b far near closed.
+          let here : moved end q k step ≡ moved end r k (out.by + step) = ap (λ x. moved end x k step) out.is ∙ moved_twice rows r within k names end out.by step in
+          let lies = moved_within rows r within k names end (out.by + step) (omega (arith, out.fits)) in
+          opened (subst (Within rows) (sym here) lies)
+          (subst Shut (sym here) (narrowing laws t rows few (moved end r k b) (moved end r k (out.by + step)) (moved_within rows r within k names end b near) lies (moved_contains rows r within k names end (out.by + step) b (omega arith)) closed));
+    }
 
-  pub end_grown : (end : End) (r : Range) → Within rows r → (k : ℕ) → Names rows k → (by : ℕ) → Reaches answer t rows end r k by → EndGrown answer t rows end r k (moved end r k by)
-  end_grown Low r within k names by reach = record {
-    value = low r k - by;
-    is = refl;
-    least = omega (arith, reach.within, (within k names).0);
-    closed = reach.closed;
-    below = λ v a b closed. reach.farther (low r k - v) (omega arith) (omega arith) (subst (λ x. Shut (with_low r k x)) (omega (arith, (within k names).0)) closed);
-  }
-  end_grown High r within k names by reach = record {
-    value = high r k + by;
-    is = refl;
-    greatest = omega (arith, reach.within, (within k names).2);
-    closed = reach.closed;
-    above = λ v a b closed. reach.farther (v - high r k) (omega arith) (omega arith) (subst (λ x. Shut (with_high r k x)) (omega arith) closed);
-  }
+    pub end_grown : (q : Range) → MovedOut answer t rows end r k 0 q → Shut q → EndGrown answer t rows end r k q
+    end_grown = grown_at end r within k names
 
   -- a row more is grown, counted from 0
   pub grown_next : (r : Range) (place : ℕ) (before lower after : Range) → GrownTo answer t rows r place before → LowGrown answer t rows before (place + 1) lower → HighGrown answer t rows lower (place + 1) after → GrownTo answer t rows r (place + 1) after

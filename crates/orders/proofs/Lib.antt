@@ -1,6 +1,8 @@
 pub mod Withins
 pub mod Sets
 pub mod Fills
+pub mod Searches
+pub mod Made
 pub mod Audsley
 pub mod Narrows
 pub mod Moves

@@ -1,7 +1,7 @@
 -- Sets of tasks: what is in them, how many, and the first tasks of an order.
-use Rattle.std.proofs.Common.{◌≡◌, ℕ, zero, suc, ◌+◌, ◌-◌, ◌<◌, ◌≤◌, Bool, true, false, cond, not, List, length, get_or, set, sym, refl, ap, ◌∙◌, inl, inr, mul-one, add-one, arith}
+use Rattle.std.proofs.Common.{◌≡◌, ℕ, zero, suc, ◌+◌, ◌-◌, ◌<◌, ◌≤◌, Bool, true, false, cond, not, ltb, List, length, get_or, set, sym, refl, ap, ◌∙◌, inl, inr, mul-one, add-one, arith}
 use Rattle.std.proofs.lemmas.List.{ext_get_or, get_or_past, get_or-set_same, get_or-set_other, length-set, set-set, set-get_or, length-replicate}
-use Rattle.std.proofs.lemmas.Bool.{cases_eq, cases_Bool, cases_lt, cond-true, cond-false, both_ways}
+use Rattle.std.proofs.lemmas.Bool.{cases_eq, cases_Bool, cases_lt, cond-true, cond-false, both_ways, lt-ltb, le-ltb}
 use Rattle.table.specs.Places.{nth, put}
 use Rattle.table.proofs.Placed.{nth_at, nth_next, put_at, nth_put_same, nth_put_other, nth_replicate, length_put, nth_none}
 use Rattle.orders.specs.Assigner.{full}
@@ -34,13 +34,6 @@ was_in s k j y =
 
 pub still_in : (s : List Bool) (k j : ℕ) → (j ≡ k → ⊥) → In s j → In (put s k false) j
 still_in s k j d y = nth_put_other s k j false false d ∙ y
-
-pub in_high : (s : List Bool) (k : ℕ) → In s k → k ≤ length s
-in_high s k y =
-    elim (cases_lt (length s) k) [
-      | inl past ↦ absurd (both_ways _ (nth_at s k false (omega arith) ∙ get_or_past s (k - 1) false (omega arith)) y)
-      | inr in' ↦ in'
-    ]
 
 -- out and in again, or in and out again, leaves the set as it was
 pub put_back : (s : List Bool) (k : ℕ) (b : Bool) → nth s k false ≡ b → 1 ≤ k → put (put s k (not b)) k b ≡ s
@@ -111,15 +104,25 @@ unfolding full
 full_out zero k l = nth_replicate 32 false k
 full_out (suc n) k l = nth_at (set (full n) n true) k false (omega arith) ∙ get_or-set_other (full n) n (k - 1) true false (λ e. omega arith) ∙ sym (nth_at (full n) k false (omega arith)) ∙ full_out n k (omega arith)
 
-pub full_in : (n : ℕ) → n ≤ 32 → (k : ℕ) → 1 ≤ k → k ≤ n → In (full n) k
+pub full_in : (n k : ℕ) → 1 ≤ k → k ≤ n → k ≤ 32 → In (full n) k
 unfolding full
-full_in zero few k low high = absurd (omega arith)
-full_in (suc n) few k low high =
+full_in zero k low high few = absurd (omega arith)
+full_in (suc n) k low high few =
     nth_at (set (full n) n true) k false low
     ∙ elim (cases_eq (k - 1) n) [
       | inl e ↦ ap (λ j. get_or (set (full n) n true) j false) e ∙ get_or-set_same (full n) n true false (omega (arith, full_length n))
-      | inr d ↦ get_or-set_other (full n) n (k - 1) true false d ∙ sym (nth_at (full n) k false low) ∙ full_in n (omega arith) k low (omega arith)
+      | inr d ↦ get_or-set_other (full n) n (k - 1) true false d ∙ sym (nth_at (full n) k false low) ∙ full_in n k low (omega arith) few
     ]
+
+-- it is the set with a row in each place before n
+pub full_by : (n : ℕ) (s : List Bool) → length s ≡ 32 → ((place : ℕ) → place < 32 → get_or s place false ≡ ltb place n) → s ≡ full n
+full_by n s long h =
+    same_set s (full n) long (full_length n) (λ k low high.
+    nth_at s k false low ∙ h (k - 1) (omega arith)
+    ∙ elim (cases_lt n k) [
+      | inl past ↦ le-ltb (k - 1) n (omega arith) ∙ sym (full_out n k past)
+      | inr in' ↦ lt-ltb (k - 1) n (omega arith) ∙ sym (full_in n k low in' high)
+    ])
 
 -- no number past the last row is among the first of an order
 pub first_out : (n : ℕ) (order : List ℕ) → Order n order → (p k : ℕ) → p ≤ n → n < k → nth (first order p) k false ≡ false

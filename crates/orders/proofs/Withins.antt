@@ -1,12 +1,17 @@
 -- The computed test of a range says what Within says, and a table has few rows.
-use Rattle.std.proofs.Common.{◌≡◌, ℕ, ◌+◌, ◌<◌, ◌≤◌, Bool, true, ◌&&◌, leb, List, length, get_or, ap, ◌∙◌, arith}
-use Rattle.std.proofs.lemmas.List.{length-take}
+use Rattle.std.proofs.Common.{◌≡◌, ℕ, zero, suc, ◌+◌, take, sym, refl, add-one, ◌<◌, ◌≤◌, Bool, true, ◌&&◌, leb, List, length, get_or, ap, ◌∙◌, arith}
+use Rattle.std.proofs.Math.Bool.{and_comm}
+use Rattle.std.proofs.lemmas.List.{length-take, take_all}
+use Rattle.std.proofs.lemmas.List.Folds.{list_all_more}
+use Rattle.std.proofs.lemmas.Slice.Zip.{length-zip, get_or-zip}
+use Rattle.std.specs.List.{list_all, zip}
 use Rattle.std.proofs.lemmas.Bool.{and_parts, and_from, leb-true, le-leb}
 use Rattle.table.specs.declared.row.Row.{Row}
 use Rattle.table.specs.declared.rows.Table.{Table as Rows}
-use Rattle.table.specs.Rows.{row, view}
+use Rattle.table.specs.Rows.{row, view, filler}
 use Rattle.table.proofs.Placed.{nth_next}
-use Rattle.bounds.specs.Sounds.{all_to_at, all_to_from, row_read}
+use Rattle.bounds.specs.Sounds.{all_to_at, all_to_from}
+use Rattle.bounds.specs.Questions.{all_to}
 use Rattle.orders.specs.declared.range.Range.{Range}
 use Rattle.orders.specs.Ranges.{low, high, Within, withinb}
 
@@ -14,11 +19,32 @@ use Rattle.orders.specs.Ranges.{low, high, Within, withinb}
 abbrev pub liesb : List Row → Range → ℕ → Bool
 liesb rows r k = leb (row rows k).wcet (low r k) && (leb (low r k) (high r k) && leb (high r k) (row rows k).deadline)
 
-pub lies_read : (rows : List Row) (r : Range) (place : ℕ) (one : Row) → place < length rows → one ≡ get_or rows place one → liesb rows r (place + 1) ≡ (leb one.wcet (get_or r.lows place 0) && (leb (get_or r.lows place 0) (get_or r.highs place 0) && leb (get_or r.highs place 0) one.deadline))
-lies_read rows r place one l is =
-    ap (λ (q : Row). leb q.wcet (low r (place + 1)) && (leb (low r (place + 1)) (high r (place + 1)) && leb (high r (place + 1)) q.deadline)) (row_read rows place one l is)
-    ∙ ap (λ x. leb one.wcet x && (leb x (high r (place + 1)) && leb (high r (place + 1)) one.deadline)) (nth_next r.lows place 0)
-    ∙ ap (λ y. leb one.wcet (get_or r.lows place 0) && (leb (get_or r.lows place 0) y && leb y one.deadline)) (nth_next r.highs place 0)
+-- what holds of each of the first n elements of a list, by number
+all_to_list : {A : Type 0} (q : A → Bool) (p : ℕ → Bool) (xs : List A) (d : A) (n : ℕ) → n ≤ length xs → ((i : ℕ) → i < n → q (get_or xs i d) ≡ p (i + 1)) → list_all q (take n xs) ≡ all_to p n
+unfolding all_to
+all_to_list q p xs d zero le same = refl
+all_to_list q p xs d (suc n) le same =
+    ap (λ i. list_all q (take i xs)) (sym (add-one n))
+    ∙ list_all_more q xs n d (omega arith)
+    ∙ and_comm (list_all q (take n xs)) (q (get_or xs n d))
+    ∙ ap (λ b. b && list_all q (take n xs)) (same n (omega arith) ∙ ap p (add-one n))
+    ∙ ap (λ b. p (suc n) && b) (all_to_list q p xs d n (omega arith) (λ i l. same i (omega arith)))
+
+-- a low and a high lie within a row, computed
+abbrev pub lies : Row × (ℕ × ℕ) → Bool
+lies p = leb p.0.wcet p.1.0 && (leb p.1.0 p.1.1 && leb p.1.1 p.0.deadline)
+
+-- the rows, each with its low and its high, are a range where each low and high lies within its row
+pub within_zipped : (rows : List Row) (r : Range) → length rows ≤ length r.lows → length rows ≤ length r.highs → list_all lies (zip rows (zip r.lows r.highs)) ≡ withinb rows r
+within_zipped rows r lows highs =
+    let ends = zip r.lows r.highs in
+    let many : length rows ≤ length ends = omega (arith, length-zip r.lows r.highs) in
+    let all : length (zip rows ends) ≡ length rows = omega (arith, length-zip rows ends) in
+    sym (ap (list_all lies) (take_all (length rows) (zip rows ends) (omega arith)))
+    ∙ all_to_list lies (liesb rows r) (zip rows ends) (filler, (0, 0)) (length rows) (omega arith) (λ i l.
+    ap lies (get_or-zip rows ends i (filler, (0, 0)) l (omega arith))
+    ∙ ap (λ e. lies (get_or rows i filler, e)) (get_or-zip r.lows r.highs i (0, 0) (omega arith) (omega arith))
+    ∙ sym (rw (nth_next rows i filler, nth_next r.lows i 0, nth_next r.highs i 0) refl))
 
 pub within_from : (rows : List Row) (r : Range) → withinb rows r ≡ true → Within rows r
 within_from rows r h k names =

@@ -1,5 +1,5 @@
 -- The assigner: levels filled from the lowest up, each by the lowest-numbered unplaced task that passes there.
-use Rattle.std.specs.Prelude.{◌≡◌, ℕ, zero, suc, ◌+◌, ◌<◌, ◌≤◌, Bool, true, false, cond, ◌&&◌, List, [], ◌∷◌, length, take, replicate, IfSome, Some, None, Option, MatchOption, nat_le, slice_set}
+use Rattle.std.specs.Prelude.{◌≡◌, ℕ, zero, suc, ◌+◌, ◌<◌, ◌≤◌, Bool, true, false, cond, ◌&&◌, List, [], ◌∷◌, length, take, replicate, IfSome, Some, None, Option, MatchOption, nat_le, slice_set, option_and_then}
 use Rattle.table.specs.declared.row.Row.{Row}
 use Rattle.table.specs.Places.{nth, put}
 use Rattle.bounds.specs.Questions.{In, NoMore}
@@ -12,11 +12,6 @@ use Rattle.orders.specs.Ranges.{high, Within, withinb, Admits, Closed}
 abbrev pub at_most : Option ℕ → ℕ → Bool
 at_most None x = false
 at_most (Some bound) x = nat_le bound x
-
--- what follows a task that was found
-abbrev pub bind : {A B : Type 0} → Option A → (A → Option B) → Option B
-bind None f = None
-bind (Some x) f = f x
 
 -- all tasks of n rows, as a set
 unfoldable pub full : ℕ → List Bool
@@ -31,7 +26,7 @@ module _ {T : Type 0} (answer : T → List Row → ℕ → List Bool → List �
   -- l levels filled with unplaced tasks, from the lowest up, above the tasks that are placed
   unfoldable pub fill : ℕ → List Bool → List ℕ → Option (List ℕ)
   fill zero left placed = Some placed
-  fill (suc l) left placed = bind (least_from (candidate left) 1 (length rows)) (λ k. fill l (put left k false) (k ∷ placed))
+  fill (suc l) left placed = option_and_then (λ k. fill l (put left k false) (k ∷ placed)) (least_from (candidate left) 1 (length rows))
 
   -- the assigner's order; none for what is no range of the rows
   abbrev pub assigned : Option (List ℕ)

@@ -27,12 +27,6 @@ span Low rows r k = low r k - (row rows k).wcet
 span High rows r k = (row rows k).deadline - high r k
 
 module _ {T : Type 0} (answer : T → List Row → ℕ → List Bool → List ℕ → Option ℕ) (t : T) (rows : List Row) where
-  -- how far an end of row k is moved out: as far as the range stays closed, and no farther would do
-  pub record Reaches (end : End) (r : Range) (k by : ℕ) : Type 0 where
-    pub within : by ≤ span end rows r k
-    pub closed : Closed answer t rows (moved end r k by)
-    pub farther : (b : ℕ) → by < b → b ≤ span end rows r k → Closed answer t rows (moved end r k b) → ⊥
-
   -- row k's low becomes the least value, at least C, that leaves the range closed
   pub record LowGrown (r : Range) (k : ℕ) (q : Range) : Type 0 where
     pub value : ℕ

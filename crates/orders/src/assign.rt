@@ -1,6 +1,7 @@
 // The assigner: Audsley's method for a range.
 ghost use Rattle.std.specs.Prelude.{◌≡◌, ◌≤◌, ◌&&◌, length, nat_le};
 ghost use Rattle.table.specs.Rows.{view};
+ghost use Rattle.bounds.specs.Responses.{least_from};
 ghost use Rattle.orders.specs.Assigner.{candidate, full, Assigns, Settles, FillsLowest};
 ghost use Rattle.orders.specs.Ranges.{withinb};
 ghost use Rattle.orders.specs.Relations.{Relations};
@@ -8,6 +9,7 @@ ghost use Rattle.orders.specs.Relations.{Relations};
 use crate::range::Range;
 use bounds::question::Question;
 use bounds::test::Test;
+use std::array;
 use table::row::Row;
 use table::rows::Table;
 
@@ -18,57 +20,63 @@ fn lies_within(row: Row, low: u32, high: u32) -> bool
     row.wcet() <= low && low <= high && high <= row.deadline()
 }
 
-// Whether this is a range of the rows.
-pub(crate) fn is_range(rows: &[Row], range: &Range) -> bool
-    requires { length rows.now ≤ 32 }
-    ensures { result ≡ withinb rows.now range.now }
+// Whether this is a range of the table.
+pub(crate) fn is_range(table: &Table<Row>, range: &Range) -> bool
+    ensures { result ≡ withinb (view table.now) range.now }
 {
-    for place in 0..rows.len() {
-        if !lies_within(rows[place], range.lows[place], range.highs[place]) {
-            return false;
-        }
-    }
-    true
+    let ends = range.lows.iter().zip(&range.highs);
+    table
+        .rows()
+        .iter()
+        .zip(ends)
+        .all(|(&row, (&low, &high))| lies_within(row, low, high))
 }
 
-// All rows as a set.
+// All tasks of `rows` rows, as a set.
 fn all_tasks(rows: usize) -> [bool; 32]
-    requires { rows ≤ 32 }
     ensures { result ≡ full rows }
 {
-    let mut left = [false; 32];
-    for place in 0..rows {
-        left[place] = true;
-    }
-    left
+    array::from_fn(|place| place < rows)
 }
 
-// Whether an unplaced task passes below all the others.
-fn passes_at<T: Test>(
-    test: &T,
-    table: &Table<Row>,
-    range: &Range,
-    left: &[bool; 32],
-    k: usize,
-) -> bool
-    requires { (1 ≤ k) × (k ≤ 32) }
-    ensures { result ≡ candidate T.answer test.now (view table.now) range.now left.now k }
-{
-    if !left[k - 1] {
-        return false;
+// What the assigner is asked: a range of a table, and a test.
+#[derive(Drop)]
+struct Assigner<'a, T> {
+    test: &'a T,
+    table: &'a Table<Row>,
+    range: &'a Range,
+}
+
+impl<T: Test> Assigner<'_, T> {
+    // Whether an unplaced task passes below all the others.
+    fn passes(&self, left: &[bool; 32], k: usize) -> bool
+        requires { (1 ≤ k) × (k ≤ 32) }
+        ensures { let rows = view self.now.table.now in
+            result ≡ candidate T.answer self.now.test.now rows self.now.range.now left.now k }
+    {
+        if !left[k - 1] {
+            return false;
+        }
+        let mut above = *left;
+        above[k - 1] = false;
+        let question = Question {
+            table: self.table,
+            task: k,
+            above: &above,
+            estimates: &self.range.lows,
+        };
+        self.test
+            .ask(&question)
+            .is_some_and(|bound| bound <= self.range.highs[k - 1])
     }
-    let mut above = *left;
-    above[k - 1] = false;
-    let lows = range.lows;
-    let question = Question {
-        table,
-        task: k,
-        above: &above,
-        estimates: &lows,
-    };
-    match test.ask(&question) {
-        Some(bound) => bound <= range.highs[k - 1],
-        None => false,
+
+    // The lowest-numbered unplaced task that passes below all the others.
+    fn lowest_passing(&self, left: &[bool; 32]) -> Option<usize>
+        ensures { let rows = view self.now.table.now in
+            let passes = candidate T.answer self.now.test.now rows self.now.range.now left.now in
+            result ≡ least_from passes 1 (length rows) }
+    {
+        (1..=self.table.len()).find(|&k| self.passes(left, k))
     }
 }
 
@@ -80,30 +88,17 @@ pub fn assign<T: Test>(test: &T, table: &Table<Row>, range: &Range) -> Option<[u
     ensures lowest { FillsLowest T.answer test.now (view table.now) range.now result }
     ensures relations { Relations T.answer test.now (view table.now) }
 {
-    let rows = table.len();
-    if !is_range(table.rows(), range) {
+    if !is_range(table, range) {
         return None;
     }
+    let assigner = Assigner { test, table, range };
+    let rows = table.len();
     let mut left = all_tasks(rows);
     let mut order = [0; 32];
-    let mut level = rows;
-    'levels: loop {
-        if level < 1 {
-            break Some(order);
-        }
-        let mut tried = 0;
-        let task = 'candidates: loop {
-            if tried == rows {
-                break 'levels None;
-            }
-            let k = tried + 1;
-            if passes_at(test, table, range, &left, k) {
-                break k;
-            }
-            tried += 1;
-        };
-        level -= 1;
+    for level in (0..rows).rev() {
+        let task = assigner.lowest_passing(&left)?;
         left[task - 1] = false;
         order[level] = task;
     }
+    Some(order)
 }

@@ -1,5 +1,5 @@
 // An end of a row's part of a range.
-#[derive(Clone, Copy)]
+#[derive(Clone, Copy, PartialEq, Eq, Debug)]
 pub(crate) enum End {
     Low,
     High,

@@ -1,6 +1,7 @@
 #![tactic(auto)]
 
 pub mod assign;
+mod closed;
 mod end;
 pub mod grow;
 pub mod range;

@@ -1,13 +1,9 @@
-use Rattle.std.proofs.Common.{◌≡◌, true, set, sym, ap, ◌∙◌, arith}
-use Rattle.orders.specs.Assigner.{full}
-use Rattle.orders.proofs.Fills.{full_none, full_more}
+use Rattle.std.proofs.Common.{false, ltb, rules, tests}
+use Rattle.orders.proofs.Made.{made_by}
+use Rattle.orders.proofs.Sets.{full_by}
 use Rattle.orders.proofs.assign.all_tasks.Goals as goal
 
-pub loop-place-init : goal.loop-place-init
-loop-place-init c = sym full_none
-
-pub loop-place-preserved : goal.loop-place-preserved
-loop-place-preserved c = ap (λ s. set s c.loop-place.place true) c.loop-place.invariant ∙ sym (full_more c.loop-place.place)
-
 pub returns : goal.returns
-returns c = c.loop-place.invariant ∙ ap full (let e : c.loop-place.place ≡ c.args.rows = omega arith in e)
+returns c =
+    let made = c.from_fn.ensures.items in
+    full_by c.args.rows c.from_fn.result made.long (made_by _ c.from_fn.result (λ place. ltb place c.args.rows) false (λ place b q k. search (rules, tests)) made)

@@ -1,23 +1,17 @@
-use Rattle.std.proofs.Common.{◌≡◌, ◌+◌, true, length, sym, ◌∙◌, subst, arith}
-use Rattle.bounds.specs.Questions.{all_to}
-use Rattle.bounds.specs.Sounds.{all_to_none, all_to_more, all_to_fails}
-use Rattle.orders.proofs.Withins.{liesb, lies_read}
+use Rattle.std.proofs.Common.{◌∙◌, rules, tests, arith}
+use Rattle.std.proofs.lemmas.Iterator.{YieldsList-from_slice, YieldsList-from_zip}
+use Rattle.std.proofs.lemmas.Iterator.Consumers.{YieldsList-at}
+use Rattle.std.proofs.lemmas.Iterator.Search.{all_from_yields_List}
+use Rattle.table.specs.Rows.{view}
+use Rattle.orders.proofs.Withins.{lies, within_zipped, few_rows}
 use Rattle.orders.proofs.assign.is_range.Goals as goal
-
-pub loop-place-init : goal.loop-place-init
-loop-place-init c = all_to_none _
-
-pub loop-place-preserved : goal.loop-place-preserved
-loop-place-preserved c =
-    let is = lies_read c.args.rows.now c.args.range.now c.loop-place.place c.index-rows-place.result c.loop-place-test.true c.index-rows-place.is in
-    all_to_more _ c.loop-place.place (is ∙ sym c.if-not-lies_within.ensures) c.loop-place.invariant
-
-pub returns-then-not-lies_within : goal.returns-then-not-lies_within
-returns-then-not-lies_within c =
-    let is = lies_read c.args.rows.now c.args.range.now c.loop-place.place c.index-rows-place.result c.loop-place-test.true c.index-rows-place.is in
-    sym (all_to_fails (liesb c.args.rows.now c.args.range.now) (length c.args.rows.now) (c.loop-place.place + 1) (omega arith) (omega arith) (is ∙ sym c.if-not-lies_within.ensures))
 
 pub returns : goal.returns
 returns c =
-    let end : c.loop-place.place ≡ length c.args.rows.now = omega arith in
-    sym (subst (λ n. all_to (liesb c.args.rows.now c.args.range.now) n ≡ true) end c.loop-place.invariant)
+    let rows = view c.args.table.now in
+    let range = c.args.range.now in
+    let few = few_rows c.args.table.now in
+    all_from_yields_List lies c.all.new.self _ c.all.result c.all.ensures.ran
+    (YieldsList-from_zip (YieldsList-from_slice rows cc) (YieldsList-at c.zip.ensures.second (YieldsList-from_zip (YieldsList-from_slice range.lows cc) (YieldsList-from_slice range.highs cc))))
+    (λ x b q called. search (rules, tests))
+    ∙ within_zipped rows range (omega arith) (omega arith)

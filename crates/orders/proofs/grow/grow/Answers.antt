@@ -1,64 +1,38 @@
-use Rattle.std.proofs.Common.{◌≡◌, length, sym, refl, ap, ◌∙◌, subst, arith}
-use Rattle.std.proofs.lemmas.Bool.{false≢true}
+use Rattle.std.proofs.Common.{◌≡◌, ◌+◌, length, sym, ◌∙◌, subst, arith}
 use Rattle.table.specs.Rows.{view}
-use Rattle.orders.specs.Growth.{GrownTo, start}
-use Rattle.orders.specs.Ranges.{withinb, Within, Closed}
+use Rattle.orders.specs.Growth.{LowGrown, HighGrown, GrownTo, start}
 use Rattle.orders.proofs.Grows.{grown_next, grown_maximal}
 use Rattle.orders.proofs.Narrows.{narrowing}
-use Rattle.orders.proofs.Withins.{within_from, within_test, few_rows}
+use Rattle.orders.proofs.Withins.{few_rows}
 use Rattle.orders.proofs.grow.grow.Goals as goal
 
-pub returns-then-not-is_range : goal.returns-then-not-is_range
-returns-then-not-is_range g c =
-    let rows = view c.args.table.now in
-    let range = c.args.range.now in
-    let outside : Within rows range → ⊥ = λ within. false≢true (c.if-not-is_range.ensures ∙ ap (λ xs. withinb xs range) c.rows.ensures.value ∙ within_test rows range within) in
-    record {
-      rule = λ within closed. absurd (outside within);
-      back = (λ o. refl, λ o. refl);
-      maximal = λ within closed. absurd (outside within);
-      narrowing = narrowing g.met.T.Test.kept c.args.test.now rows (few_rows c.args.table.now);
-    }
-
-pub is_closed-requires : goal.is_closed-requires
-is_closed-requires g c = within_from (view c.args.table.now) c.args.range.now (sym (c.if-not-is_range.ensures ∙ ap (λ xs. withinb xs c.args.range.now) c.rows.ensures.value))
-
-pub returns-then-not-is_closed : goal.returns-then-not-is_closed
-returns-then-not-is_closed g c =
-    let rows = view c.args.table.now in
-    let opened : Closed g.T.Test.answer c.args.test.now rows c.args.range.now → ⊥ = λ closed. false≢true (c.if-not-is_closed.ensures.1 closed) in
-    record {
-      rule = λ within closed. absurd (opened closed);
-      back = (λ o. refl, λ o. refl);
-      maximal = λ within closed. absurd (opened closed);
-      narrowing = narrowing g.met.T.Test.kept c.args.test.now rows (few_rows c.args.table.now);
-    }
+pub returns-in_default-clause-narrowing : goal.returns-in_default-clause-narrowing
+returns-in_default-clause-narrowing g c = narrowing g.met.T.Test.kept c.args.test.now (view c.args.table.now) (few_rows c.args.table.now)
 
 pub loop-place-init : goal.loop-place-init
-loop-place-init g c = (
-  start,
-  within_from (view c.args.table.now) c.args.range.now (sym (c.if-not-is_range.ensures ∙ ap (λ xs. withinb xs c.args.range.now) c.rows.ensures.value)),
-  c.if-not-is_closed.ensures.0 refl,
-)
+loop-place-init g c =
+    let made = c.in-Some.ensures.some in
+    (made.0, made.1, subst (GrownTo g.T.Test.answer c.args.test.now (view c.args.table.now) c.args.range.now 0) (sym made.2) start)
 
 pub loop-place-preserved : goal.loop-place-preserved
 loop-place-preserved g c =
     let rows = view c.args.table.now in
-    let more = grown_next g.met.T.Test.kept c.args.test.now rows (few_rows c.args.table.now) c.args.range.now c.loop-place.place c.loop-place.grown c.grow_end-lower.result c.grow_end-grown.result in
-    (more c.loop-place.invariant.0 c.grow_end-lower.ensures.grown c.grow_end-grown.ensures.grown, c.grow_end-grown.ensures.within, c.grow_end-grown.ensures.shut)
+    let k = c.loop-place.place + 1 in
+    let before = c.loop-place.grown.range in
+    let lower = c.grow_end.result.range in
+    let after = c.grow_end-grown.result.range in
+    let test = c.grow_end.ensures.test ∙ c.loop-place.invariant.0 in
+    let table = c.grow_end.ensures.table ∙ c.loop-place.invariant.1 in
+    let low : LowGrown g.T.Test.answer c.args.test.now rows before k lower = rw (c.loop-place.invariant.0, c.loop-place.invariant.1) at c.grow_end.ensures.grown in
+    let high : HighGrown g.T.Test.answer c.args.test.now rows lower k after = rw (test, table) at c.grow_end-grown.ensures.grown in
+    (c.grow_end-grown.ensures.test ∙ test, c.grow_end-grown.ensures.table ∙ table, grown_next g.met.T.Test.kept c.args.test.now rows (few_rows c.args.table.now) c.args.range.now c.loop-place.place before lower after c.loop-place.invariant.2 low high)
 
-pub returns : goal.returns
-returns g c =
+pub returns-clause-maximal : goal.returns-clause-maximal
+returns-clause-maximal g c within shut =
     let rows = view c.args.table.now in
-    let range = c.args.range.now in
-    let few = few_rows c.args.table.now in
     let end : c.loop-place.place ≡ length rows = omega (arith, c.len-place-end.ensures.rows) in
-    let closed = c.if-not-is_closed.ensures.0 refl in
-    let inside = within_from rows range (sym (c.if-not-is_range.ensures ∙ ap (λ xs. withinb xs range) c.rows.ensures.value)) in
-    let grown : GrownTo g.T.Test.answer c.args.test.now rows range (length rows) c.loop-place.grown = subst (λ n. GrownTo g.T.Test.answer c.args.test.now rows range n c.loop-place.grown) end c.loop-place.invariant.0 in
-    record {
-      rule = λ within shut. grown;
-      back = (λ o. absurd (closed o.0 o.1), λ outside. absurd (outside inside));
-      maximal = λ within shut. grown_maximal g.met.T.Test.kept c.args.test.now rows few range c.loop-place.grown within shut grown;
-      narrowing = narrowing g.met.T.Test.kept c.args.test.now rows few;
-    }
+    let grown = subst (λ n. GrownTo g.T.Test.answer c.args.test.now rows c.args.range.now n c.loop-place.grown.range) end c.loop-place.invariant.2 in
+    grown_maximal g.met.T.Test.kept c.args.test.now rows (few_rows c.args.table.now) c.args.range.now c.loop-place.grown.range within shut grown
+
+pub returns-clause-narrowing : goal.returns-clause-narrowing
+returns-clause-narrowing g c = narrowing g.met.T.Test.kept c.args.test.now (view c.args.table.now) (few_rows c.args.table.now)

@@ -1,0 +1,19 @@
+// A range of a table that no order passes.
+ghost use Rattle.table.specs.Rows.{view};
+ghost use Rattle.orders.specs.Ranges.{Within, Closed};
+
+pub(crate) mod ends;
+
+use crate::range::Range;
+use bounds::test::Test;
+use table::row::Row;
+use table::rows::Table;
+
+#[derive(Drop)]
+pub(crate) struct ClosedRange<'a, T: Test> {
+    test: &'a T,
+    table: &'a Table<Row>,
+    pub(crate) range: Range,
+    ghost within: { Within (view table.now) range },
+    ghost closed: { Closed T.answer test.now (view table.now) range },
+}

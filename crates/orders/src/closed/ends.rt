@@ -1,0 +1,79 @@
+// The ends of a closed range, moved out while it stays closed.
+ghost use Rattle.std.specs.Prelude.{◌≡◌, ◌+◌, ◌<◌, ◌≤◌, length, IfSome, IfNone};
+ghost use Rattle.table.specs.Rows.{view};
+ghost use Rattle.orders.specs.Growth.{moved as moved_out, span as span_of, EndGrown};
+ghost use Rattle.orders.specs.Ranges.{Within, Closed};
+
+use super::ClosedRange;
+use crate::assign::{assign, is_range};
+use crate::end::End;
+use crate::range::Range;
+use bounds::test::Test;
+use table::row::Row;
+use table::rows::Table;
+
+impl<'a, T: Test> ClosedRange<'a, T> {
+    // The range, where it is a range of the table and closed.
+    pub(crate) fn new(test: &'a T, table: &'a Table<Row>, range: Range) -> Option<Self>
+        ensures some { IfSome result (λ q.
+            (q.test.now ≡ test.now) × (q.table.now ≡ table.now) × (q.range ≡ range)) }
+        ensures none { let rows = view table.now in
+            IfNone result (Within rows range → Closed T.answer test.now rows range → ⊥) }
+    {
+        if !is_range(table, &range) || assign(test, table, &range).is_some() {
+            return None;
+        }
+        Some(ClosedRange { test, table, range })
+    }
+
+    // How far an end of the row at a place may be moved out.
+    fn span(&self, end: End, place: usize) -> u32
+        requires { place < length (view self.now.table.now) }
+        ensures { result ≡ span_of end (view self.now.table.now) self.now.range (place + 1) }
+    {
+        let row = self.table.rows()[place];
+        match end {
+            End::Low => self.range.lows[place] - row.wcet(),
+            End::High => row.deadline() - self.range.highs[place],
+        }
+    }
+
+    // The range with an end of the row at a place moved out.
+    fn moved(&self, end: End, place: usize, by: u32) -> Range
+        requires place { place < length (view self.now.table.now) }
+        requires short { by ≤ span_of end (view self.now.table.now) self.now.range (place + 1) }
+        ensures { result ≡ moved_out end self.now.range (place + 1) by }
+    {
+        let mut range = self.range;
+        match end {
+            End::Low => range.lows[place] -= by,
+            End::High => range.highs[place] += by,
+        }
+        range
+    }
+
+    // The range with an end of the row at a place moved out as far as it stays closed: the room
+    // left to move it is halved.
+    pub(crate) fn grow_end(self, end: End, place: usize) -> Self
+        requires { place < length (view self.table.now) }
+        ensures test { result.test.now ≡ self.entry.test.now }
+        ensures table { result.table.now ≡ self.entry.table.now }
+        ensures grown { let rows = view self.entry.table.now in
+            EndGrown T.answer self.entry.test.now rows end self.entry.range (place + 1) result.range }
+    {
+        let mut grown = self;
+        let mut room = grown.span(end, place);
+        while room > 0 {
+            let step = room.div_ceil(2);
+            let wider = grown.moved(end, place, step);
+            match ClosedRange::new(grown.test, grown.table, wider) {
+                Some(wider) => {
+                    grown = wider;
+                    room -= step;
+                }
+                None => room = step - 1,
+            }
+        }
+        grown
+    }
+}
