@@ -1,34 +1,34 @@
--- A test of every place below n is the test of every number from 1 to n.
-use Rattle.std.proofs.Common.{◌≡◌, ℕ, zero, suc, ◌+◌, ◌-◌, ◌<◌, ◌≤◌, Bool, true, false, not, List, length, get_or, nat_le, sym, refl, ap, ◌∙◌, inl, inr, arith}
-use Rattle.std.proofs.lemmas.Bool.{cases_Bool, cases_eq, and_from, and_parts, and_right, both_ways}
+-- A test of every element of a list, or of every place below n, is the test of every number from 1 to n.
+use Rattle.std.proofs.Common.{◌≡◌, ℕ, zero, suc, ◌+◌, ◌-◌, ◌<◌, ◌≤◌, Bool, false, not, ◌&&◌, List, length, take, get_or, nat_le, sym, refl, ap, ◌∙◌, inl, inr, add-one, arith}
+use Rattle.std.proofs.Math.Bool.{and_comm}
+use Rattle.std.proofs.lemmas.List.{take_all}
+use Rattle.std.proofs.lemmas.List.Folds.{list_all_more}
+use Rattle.std.proofs.lemmas.List.FromFn.{length-range_with_len, get_or-range_with_len}
+use Rattle.std.proofs.lemmas.Bool.{cases_Bool, and_right}
 use Rattle.std.specs.List.{list_all, range_with_len}
 use Rattle.table.specs.declared.row.Row.{Row}
 use Rattle.table.specs.Places.{nth}
 use Rattle.table.specs.Rows.{Names}
 use Rattle.bounds.specs.Questions.{all_to, fitsb, soundb}
-use Rattle.bounds.specs.Sounds.{all_to_from, all_to_at, sound_computed}
+use Rattle.bounds.specs.Sounds.{sound_computed}
 
--- of n places from a on
-each_place : (p : ℕ → Bool) (a n : ℕ) → ((k : ℕ) → a < k → k ≤ a + n → p k ≡ true) → list_all (λ j. p (j + 1)) (range_with_len a n) ≡ true
-each_place p a zero h = refl
-each_place p a (suc n) h = and_from (p (a + 1)) _ (h (a + 1) (omega arith) (omega arith)) (each_place p (a + 1) n (λ k low high. h k (omega arith) (omega arith)))
-
-place_at : (p : ℕ → Bool) (a n k : ℕ) → list_all (λ j. p (j + 1)) (range_with_len a n) ≡ true → a < k → k ≤ a + n → p k ≡ true
-place_at p a zero k h low high = absurd (omega arith)
-place_at p a (suc n) k h low high =
-    let parts = and_parts (p (a + 1)) (list_all (λ j. p (j + 1)) (range_with_len (a + 1) n)) h in
-    elim (cases_eq k (a + 1)) [ inl e ↦ ap p e ∙ parts.0 | inr d ↦ place_at p (a + 1) n k parts.1 (omega arith) (omega arith) ]
+-- what holds of each of the first n elements of a list, by number
+pub all_to_list : {A : Type 0} (q : A → Bool) (p : ℕ → Bool) (xs : List A) (d : A) (n : ℕ) → n ≤ length xs → ((i : ℕ) → i < n → q (get_or xs i d) ≡ p (i + 1)) → list_all q (take n xs) ≡ all_to p n
+unfolding all_to
+all_to_list q p xs d zero le same = refl
+all_to_list q p xs d (suc n) le same =
+    ap (λ i. list_all q (take i xs)) (sym (add-one n))
+    ∙ list_all_more q xs n d (omega arith)
+    ∙ and_comm (list_all q (take n xs)) (q (get_or xs n d))
+    ∙ ap (λ b. b && list_all q (take n xs)) (same n (omega arith) ∙ ap p (add-one n))
+    ∙ ap (λ b. p (suc n) && b) (all_to_list q p xs d n (omega arith) (λ i l. same i (omega arith)))
 
 pub all_places : (p : ℕ → Bool) (n : ℕ) → list_all (λ j. p (j + 1)) (range_with_len 0 n) ≡ all_to p n
 all_places p n =
-    let places = list_all (λ j. p (j + 1)) (range_with_len 0 n) in
-    elim (cases_Bool (all_to p n)) [
-      | inl y ↦ each_place p 0 n (λ k low high. all_to_at p n k y (omega arith) (omega arith)) ∙ sym y
-      | inr z ↦ elim (cases_Bool places) [
-        | inl y ↦ absurd (both_ways (all_to p n) z (all_to_from p n (λ k low high. place_at p 0 n k y (omega arith) (omega arith))))
-        | inr w ↦ w ∙ sym z
-      ]
-    ]
+    let places = range_with_len 0 n in
+    let long = length-range_with_len 0 n in
+    sym (ap (list_all (λ j. p (j + 1))) (take_all n places (omega arith)))
+    ∙ all_to_list (λ j. p (j + 1)) p places 0 n (omega arith) (λ i l. ap p (omega (arith, get_or-range_with_len 0 n i 0 l)))
 
 -- a question of a task that is in the table and not above itself is as sound as its places
 pub sound_by_places : (rows : List Row) (i : ℕ) (s : List Bool) (e : List ℕ) → length rows ≤ 32 → Names rows i → get_or s (i - 1) false ≡ false → all_to (fitsb rows s e) 32 ≡ soundb rows i s e

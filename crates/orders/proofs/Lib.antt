@@ -2,7 +2,6 @@ pub mod Withins
 pub mod Sets
 pub mod Fills
 pub mod Searches
-pub mod Made
 pub mod Audsley
 pub mod Narrows
 pub mod Moves

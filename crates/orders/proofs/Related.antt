@@ -88,7 +88,7 @@ module _ (rows : List Row) (few : length rows ≤ 32) (order : List ℕ) (o : Or
     passes_own long bounded p l =
         let task = task_at order p in
         let inside : p < length rows = omega (arith, o.size) in
-        let same : (k : ℕ) → Names rows k → nth (padded bounds) k 0 ≡ nth bounds k 0 = λ k names. padded_at bounds k names.0 (omega (arith, names.1)) (omega arith) in
+        let same : (k : ℕ) → Names rows k → nth (padded bounds) k 0 ≡ nth bounds k 0 = λ k names. padded_at bounds k names.0 (omega (arith, names.1)) in
         let within : (k : ℕ) → Names rows k → ((row rows k).wcet ≤ nth (padded bounds) k 0) × (nth (padded bounds) k 0 ≤ (row rows k).deadline) =
         λ k names. let at = placed k names in let b = bound_within (length order) bounded at.0 (omega (arith, at.1, o.size)) in
         subst (λ x. ((row rows k).wcet ≤ x) × (x ≤ (row rows k).deadline)) (sym (same k names)) (subst (λ j. ((row rows j).wcet ≤ nth bounds j 0) × (nth bounds j 0 ≤ (row rows j).deadline)) at.2 b) in
@@ -133,7 +133,7 @@ module _ {T : Type 0} {answer : T → List Row → ℕ → List Bool → List �
 
   holds_below : HoldsBelow answer t rows
   holds_below order es o est passes =
-      let same : (k : ℕ) → Names rows k → nth (padded es) k 0 ≡ nth es k 0 = λ k names. padded_at es k names.0 (omega (arith, names.1, est.size)) (omega (arith, est.size)) in
+      let same : (k : ℕ) → Names rows k → nth (padded es) k 0 ≡ nth es k 0 = λ k names. padded_at es k names.0 (omega (arith, names.1, est.size)) in
       let within : (k : ℕ) → Names rows k → ((row rows k).wcet ≤ nth (padded es) k 0) × (nth (padded es) k 0 ≤ (row rows k).deadline) =
       λ k names. subst (λ x. ((row rows k).wcet ≤ x) × (x ≤ (row rows k).deadline)) (sym (same k names)) (est.within k names) in
       elim (one_or_other answer t rows order o).0 [

@@ -1,17 +1,14 @@
--- The computed test of a range says what Within says, and a table has few rows.
-use Rattle.std.proofs.Common.{◌≡◌, ℕ, zero, suc, ◌+◌, take, sym, refl, add-one, ◌<◌, ◌≤◌, Bool, true, ◌&&◌, leb, List, length, get_or, ap, ◌∙◌, arith}
-use Rattle.std.proofs.Math.Bool.{and_comm}
-use Rattle.std.proofs.lemmas.List.{length-take, take_all}
-use Rattle.std.proofs.lemmas.List.Folds.{list_all_more}
+-- The computed test of a range says what Within says.
+use Rattle.std.proofs.Common.{◌≡◌, ℕ, sym, refl, ◌≤◌, Bool, true, ◌&&◌, leb, List, length, get_or, ap, ◌∙◌, arith}
+use Rattle.std.proofs.lemmas.List.{take_all}
 use Rattle.std.proofs.lemmas.Slice.Zip.{length-zip, get_or-zip}
 use Rattle.std.specs.List.{list_all, zip}
 use Rattle.std.proofs.lemmas.Bool.{and_parts, and_from, leb-true, le-leb}
 use Rattle.table.specs.declared.row.Row.{Row}
-use Rattle.table.specs.declared.rows.Table.{Table as Rows}
-use Rattle.table.specs.Rows.{row, view, filler}
+use Rattle.table.specs.Rows.{row, filler, spans}
 use Rattle.table.proofs.Placed.{nth_next}
+use Rattle.bounds.proofs.Places.{all_to_list}
 use Rattle.bounds.specs.Sounds.{all_to_at, all_to_from}
-use Rattle.bounds.specs.Questions.{all_to}
 use Rattle.orders.specs.declared.range.Range.{Range}
 use Rattle.orders.specs.Ranges.{low, high, Within, withinb}
 
@@ -19,20 +16,9 @@ use Rattle.orders.specs.Ranges.{low, high, Within, withinb}
 abbrev pub liesb : List Row → Range → ℕ → Bool
 liesb rows r k = leb (row rows k).wcet (low r k) && (leb (low r k) (high r k) && leb (high r k) (row rows k).deadline)
 
--- what holds of each of the first n elements of a list, by number
-all_to_list : {A : Type 0} (q : A → Bool) (p : ℕ → Bool) (xs : List A) (d : A) (n : ℕ) → n ≤ length xs → ((i : ℕ) → i < n → q (get_or xs i d) ≡ p (i + 1)) → list_all q (take n xs) ≡ all_to p n
-unfolding all_to
-all_to_list q p xs d zero le same = refl
-all_to_list q p xs d (suc n) le same =
-    ap (λ i. list_all q (take i xs)) (sym (add-one n))
-    ∙ list_all_more q xs n d (omega arith)
-    ∙ and_comm (list_all q (take n xs)) (q (get_or xs n d))
-    ∙ ap (λ b. b && list_all q (take n xs)) (same n (omega arith) ∙ ap p (add-one n))
-    ∙ ap (λ b. p (suc n) && b) (all_to_list q p xs d n (omega arith) (λ i l. same i (omega arith)))
-
 -- a low and a high lie within a row, computed
 abbrev pub lies : Row × (ℕ × ℕ) → Bool
-lies p = leb p.0.wcet p.1.0 && (leb p.1.0 p.1.1 && leb p.1.1 p.0.deadline)
+lies p = spans p.0 p.1.0 p.1.1
 
 -- the rows, each with its low and its high, are a range where each low and high lies within its row
 pub within_zipped : (rows : List Row) (r : Range) → length rows ≤ length r.lows → length rows ≤ length r.highs → list_all lies (zip rows (zip r.lows r.highs)) ≡ withinb rows r
@@ -54,6 +40,3 @@ within_from rows r h k names =
 
 pub within_test : (rows : List Row) (r : Range) → Within rows r → withinb rows r ≡ true
 within_test rows r h = all_to_from (liesb rows r) (length rows) (λ k a b. let w = h k (a, b) in and_from _ _ (le-leb _ _ w.0) (and_from _ _ (le-leb _ _ w.1) (le-leb _ _ w.2)))
-
-pub few_rows : (t : Rows Row) → length (view t) ≤ 32
-few_rows t = omega (arith, length-take t.len t.rows, t.ok)

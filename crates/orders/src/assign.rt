@@ -1,5 +1,5 @@
 // The assigner: Audsley's method for a range.
-ghost use Rattle.std.specs.Prelude.{◌≡◌, ◌≤◌, ◌&&◌, length, nat_le};
+ghost use Rattle.std.specs.Prelude.{◌≡◌, ◌≤◌, length};
 ghost use Rattle.table.specs.Rows.{view};
 ghost use Rattle.bounds.specs.Responses.{least_from};
 ghost use Rattle.orders.specs.Assigner.{candidate, full, Assigns, Settles, FillsLowest};
@@ -13,13 +13,6 @@ use std::array;
 use table::row::Row;
 use table::rows::Table;
 
-// Whether a low and a high lie from the row's wcet to its deadline, the low at most the high.
-fn lies_within(row: Row, low: u32, high: u32) -> bool
-    ensures { result ≡ (nat_le row.wcet low && (nat_le low high && nat_le high row.deadline)) }
-{
-    row.wcet() <= low && low <= high && high <= row.deadline()
-}
-
 // Whether this is a range of the table.
 pub(crate) fn is_range(table: &Table<Row>, range: &Range) -> bool
     ensures { result ≡ withinb (view table.now) range.now }
@@ -29,7 +22,7 @@ pub(crate) fn is_range(table: &Table<Row>, range: &Range) -> bool
         .rows()
         .iter()
         .zip(ends)
-        .all(|(&row, (&low, &high))| lies_within(row, low, high))
+        .all(|(row, (&low, &high))| row.spans(low, high))
 }
 
 // All tasks of `rows` rows, as a set.

@@ -5,7 +5,7 @@ use Rattle.orders.specs.Assigner.{Assigns}
 use Rattle.orders.proofs.Audsley.{settles, fills_lowest}
 use Rattle.orders.proofs.Fills.{assigned_not, filling_none, filling_more, filling_fails, filling_all}
 use Rattle.orders.proofs.Related.{related}
-use Rattle.orders.proofs.Withins.{few_rows}
+use Rattle.table.proofs.View.{few_rows}
 use Rattle.orders.proofs.assign.assign.Goals as goal
 
 pub returns-then-not-is_range : goal.returns-then-not-is_range

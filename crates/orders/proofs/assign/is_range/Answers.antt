@@ -3,7 +3,8 @@ use Rattle.std.proofs.lemmas.Iterator.{YieldsList-from_slice, YieldsList-from_zi
 use Rattle.std.proofs.lemmas.Iterator.Consumers.{YieldsList-at}
 use Rattle.std.proofs.lemmas.Iterator.Search.{all_from_yields_List}
 use Rattle.table.specs.Rows.{view}
-use Rattle.orders.proofs.Withins.{lies, within_zipped, few_rows}
+use Rattle.table.proofs.View.{few_rows}
+use Rattle.orders.proofs.Withins.{lies, within_zipped}
 use Rattle.orders.proofs.assign.is_range.Goals as goal
 
 pub returns : goal.returns

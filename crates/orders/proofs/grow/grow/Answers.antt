@@ -3,7 +3,7 @@ use Rattle.table.specs.Rows.{view}
 use Rattle.orders.specs.Growth.{LowGrown, HighGrown, GrownTo, start}
 use Rattle.orders.proofs.Grows.{grown_next, grown_maximal}
 use Rattle.orders.proofs.Narrows.{narrowing}
-use Rattle.orders.proofs.Withins.{few_rows}
+use Rattle.table.proofs.View.{few_rows}
 use Rattle.orders.proofs.grow.grow.Goals as goal
 
 pub returns-in_default-clause-narrowing : goal.returns-in_default-clause-narrowing

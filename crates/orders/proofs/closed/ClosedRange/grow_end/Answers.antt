@@ -3,7 +3,7 @@ use Rattle.table.specs.Rows.{view}
 use Rattle.orders.specs.Growth.{span, moved}
 use Rattle.orders.specs.Ranges.{Within, Closed}
 use Rattle.orders.proofs.Grows.{MovedOut, out_none, room_left, out_more, out_less, end_grown}
-use Rattle.orders.proofs.Withins.{few_rows}
+use Rattle.table.proofs.View.{few_rows}
 use Rattle.orders.proofs.closed.ClosedRange.grow_end.Goals as goal
 
 pub loop-room-init : goal.loop-room-init
