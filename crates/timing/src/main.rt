@@ -88,6 +88,7 @@ impl Case {
     // The answers for each task with those before it above, folded into a checksum; late counts as 0.
     fn ask_all(&self, test: &NamedTest, mut sum: u32) -> u32 {
         let mut above = [false; 32];
+        // By place: a question names its task by number, and no row is read here.
         for place in 0..self.table.len() {
             let question = Question {
                 table: &self.table,
