@@ -2,7 +2,6 @@
 // the range of all C to D is open, and prints it all.
 #![tactic(auto)]
 
-use anyhow::anyhow;
 use bounds::analyse::analyse;
 use bounds::check::check;
 use bounds::named::NamedTest;
@@ -10,7 +9,6 @@ use orders::assign::assign;
 use orders::grow::grow;
 use orders::range::Range;
 use std::{array, fmt};
-use table::fault::Fault;
 use table::row::Row;
 use table::rows::Table;
 use worked::worked_table;
@@ -85,15 +83,15 @@ struct Worked {
 
 impl Worked {
     fn new(name: &'static str) -> anyhow::Result<Worked> {
-        let table = worked_table().map_err(refused)?;
-        let test = NamedTest::new(name.as_bytes(), 2).map_err(refused)?;
+        let table = worked_table()?;
+        let test = NamedTest::new(name.as_bytes(), 2)?;
         Ok(Worked { name, table, test })
     }
 
     fn print_analysis(&self, rt: &impl Print) -> anyhow::Result<()> {
         let name = self.name;
         let mut bounds = [0; 3];
-        let late = analyse(&self.test, &self.table, &ORDER, &mut bounds).map_err(refused)?;
+        let late = analyse(&self.test, &self.table, &ORDER, &mut bounds)?;
         let analysis = Analysis { late, bounds };
         for task in ORDER {
             println!(rt; "{name} {} {}", Task(task), analysis.outcome(task))?;
@@ -103,8 +101,7 @@ impl Worked {
 
     fn print_check(&self, rt: &impl Print) -> anyhow::Result<()> {
         let name = self.name;
-        let checked = check(&self.test, &self.table, &ORDER, &ESTIMATES);
-        match checked.map_err(refused)? {
+        match check(&self.test, &self.table, &ORDER, &ESTIMATES)? {
             None => println!(rt; "{name} passes - 0")?,
             Some(miss) => {
                 let outcome = miss.bound.map_or(Outcome::Late, Outcome::Bound);
@@ -142,14 +139,6 @@ fn whole_range(rows: &[Row]) -> Range {
         lows: array::from_fn(|place| rows.get(place).map_or(0, Row::wcet)),
         highs: array::from_fn(|place| rows.get(place).map_or(0, Row::deadline)),
     }
-}
-
-// A refusal as the program's error.
-fn refused(fault: Fault) -> anyhow::Error {
-    anyhow!(
-        "a worked example was refused, by question {}",
-        fault.number()
-    )
 }
 
 fn run(rt: &impl Print) -> anyhow::Result<()> {

@@ -5,7 +5,6 @@
 
 ghost use Rattle.std.specs.Prelude.{◌-◌, ◌≤◌};
 
-use anyhow::anyhow;
 use bounds::named::NamedTest;
 use bounds::question::Question;
 use bounds::test::Test;
@@ -138,11 +137,6 @@ fn checksum<F: Fn(&Case, u32) -> u32>(kind: Kind, tables: u32, measure: F) -> Re
     Ok(sum)
 }
 
-// A refusal as the program's error.
-fn refused(fault: Fault) -> anyhow::Error {
-    anyhow!("a call was refused, by question {}", fault.number())
-}
-
 /// Where to print, and how many tables of each kind there are.
 #[derive(Clone, Copy)]
 struct Benchmark<'a, R> {
@@ -163,7 +157,7 @@ impl<R: Print + Eprint + Clock> Benchmark<'_, R> {
     {
         let rt = self.rt;
         let start = Instant::now(rt)?;
-        let sum = checksum(kind, self.tables, measure).map_err(refused)?;
+        let sum = checksum(kind, self.tables, measure)?;
         let taken = start.elapsed(rt)?.as_nanos();
         let times = u128::from(self.tables).saturating_mul(on_each as u128);
         let each = taken / times.max(1);
@@ -174,7 +168,7 @@ impl<R: Print + Eprint + Clock> Benchmark<'_, R> {
 
     // Times a question for each task.
     fn time_questions(&self, name: &str) -> anyhow::Result<()> {
-        let test = NamedTest::new(name.as_bytes(), 4).map_err(refused)?;
+        let test = NamedTest::new(name.as_bytes(), 4)?;
         for longest in [1_000, 1_000_000] {
             for rows in [8, 16, 32] {
                 let kind = Kind { rows, longest };
@@ -186,16 +180,17 @@ impl<R: Print + Eprint + Clock> Benchmark<'_, R> {
 
     // Times a growth on each table.
     fn time_growth(&self, name: &str) -> anyhow::Result<()> {
-        let test = NamedTest::new(name.as_bytes(), 4).map_err(refused)?;
+        let test = NamedTest::new(name.as_bytes(), 4)?;
         self.time(name, GROWN, 1, |case, sum| case.grow_one(&test, sum))
     }
 }
 
 fn tables_asked(rt: &(impl Env + Alloc)) -> anyhow::Result<u32> {
-    match env::args(rt)?.skip(1).last() {
-        Some(word) => Ok(word.as_str().parse()?),
-        None => Ok(20),
+    let mut tables = 20;
+    for word in env::args(rt)?.skip(1) {
+        tables = word.as_str().parse()?;
     }
+    Ok(tables)
 }
 
 fn run(rt: &HostRuntime) -> anyhow::Result<()> {
