@@ -535,29 +535,27 @@ mod tests {
         Ok(table)
     }
 
-    // The order that the assigner gives, if any, and the ends that growth gives.
+    // The order that the assigner gives, if any, and the range that growth gives.
     #[derive(Clone, Copy, PartialEq, Debug)]
     struct Found {
         order: Option<[usize; 32]>,
-        lows: [u32; 32],
-        highs: [u32; 32],
-    }
-
-    impl Found {
-        fn new(order: Option<[usize; 32]>, grown: Range) -> Found {
-            let Range { lows, highs } = grown;
-            Found { order, lows, highs }
-        }
+        grown: Range,
     }
 
     // What is found in a range of a table.
     fn find<T: Test>(test: &T, table: &Table<Row>, range: &Range) -> Found {
-        Found::new(assign(test, table, range), grow(test, table, range))
+        Found {
+            order: assign(test, table, range),
+            grown: grow(test, table, range),
+        }
     }
 
     // What is to be found: an order, if any, and a range.
     fn wanted(order: Option<&[usize]>, grown: Range) -> Found {
-        Found::new(order.map(|tasks| padded(tasks, 0)), grown)
+        Found {
+            order: order.map(|tasks| padded(tasks, 0)),
+            grown,
+        }
     }
 
     impl Case<'_> {
