@@ -2,7 +2,7 @@
 ghost use Rattle.table.specs.Rows.{view};
 ghost use Rattle.orders.specs.Ranges.{Within, Closed};
 
-pub(crate) mod ends;
+mod ends;
 
 use crate::range::Range;
 use bounds::test::Test;

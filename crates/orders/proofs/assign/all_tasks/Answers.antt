@@ -1,5 +1,5 @@
 use Rattle.std.proofs.Common.{false, ltb, rules, tests}
-use Rattle.orders.proofs.Made.{made_by}
+use Rattle.orders.proofs.Chains.{made_by}
 use Rattle.orders.proofs.Sets.{full_by}
 use Rattle.orders.proofs.assign.all_tasks.Goals as goal
 

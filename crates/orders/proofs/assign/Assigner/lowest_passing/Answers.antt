@@ -3,7 +3,7 @@ use Rattle.std.proofs.lemmas.Iterator.Adapters.{option_map_id}
 use Rattle.std.proofs.lemmas.Iterator.Search.{find_from_yields_List}
 use Rattle.table.specs.Rows.{view}
 use Rattle.orders.specs.Assigner.{candidate}
-use Rattle.orders.proofs.Searches.{yields_from_1, find_least}
+use Rattle.orders.proofs.Chains.{yields_from_1, find_least}
 use Rattle.orders.proofs.assign.Assigner.lowest_passing.Goals as goal
 
 pub returns : goal.returns

@@ -1,17 +1,22 @@
--- The first number from 1 to n that passes a test, as `find` over 1..=n answers it, is the least.
-use Rattle.std.proofs.Common.{◌≡◌, ℕ, zero, suc, ◌+◌, ◌-◌, Bool, true, false, cond, List, ◌∷◌, length, Some, sym, refl, ap, ◌∙◌, subst, arith}
+-- What `find` over 1..=n answers, and what `array::from_fn` makes.
+use Rattle.std.proofs.Common.{◌≡◌, ℕ, zero, suc, ◌+◌, ◌-◌, ◌<◌, ◌≤◌, Bool, true, false, cond, List, ◌∷◌, length, get_or, Some, sym, refl, ap, ◌∙◌, subst, inl, inr, arith}
 use Rattle.std.proofs.iter.runs.Sources.{nat_range_inclusive_steps}
+use Rattle.std.proofs.lemmas.Bool.{cases_eq}
 use Rattle.std.proofs.lemmas.Iterator.{YieldsList}
 use Rattle.std.proofs.lemmas.Iterator.Consumers.{YieldsList-from_shown}
 use Rattle.std.specs.declared.ops.RangeInclusive.{RangeInclusive}
+use Rattle.std.specs.Array.{IsFromFnResult, IsFromFnResultFrom}
+use Rattle.std.specs.Fn.{Called}
 use Rattle.std.specs.List.{find, range_with_len}
 use Rattle.std.specs.Range.{range_inclusive_start, range_inclusive_end, range_inclusive_exhausted, range_inclusive_len}
+use denote.Param.Members.{Mut}
 use Rattle.bounds.specs.Responses.{least_from}
 
+-- how many numbers are left
 abbrev count : ℕ → ℕ → Bool → ℕ
 count = range_inclusive_len (λ x y. y - x)
 
--- the numbers that are left
+-- and which
 abbrev left : RangeInclusive ℕ → List ℕ
 left s = range_with_len s.start (count s.start s.end s.exhausted)
 
@@ -33,8 +38,22 @@ yields_from_1 {s} n start end fresh =
     subst (YieldsList nat_range_inclusive_steps (λ x. x) s) whole
     (YieldsList-from_shown nat_range_inclusive_steps (λ x. x) left (λ s t h. ap (λ n. length (range_with_len s.start n)) h.1.0) step s)
 
--- what `find` answers over those numbers
+-- the first of the numbers that passes a test is the least
 pub find_least : (p : ℕ → Bool) (k n : ℕ) → find p (range_with_len k n) ≡ least_from p k n
 unfolding least_from
 find_least p k zero = refl
 find_least p k (suc n) = ap (cond (p k) (Some k)) (find_least p (k + 1) n)
+
+-- an array whose elements its closure computes from their places, staying as it was
+module _ {F A : Type 0} {g : Mut F (ℕ × Unit {0}) A} (f : F) (xs : List A) (of : ℕ → A) (d : A) (computes : (place : ℕ) (x : A) (after : F) → Called g f (place, tt) x after → (after ≡ f) × (x ≡ of place)) where
+  made_from : (n i : ℕ) → IsFromFnResultFrom g f xs i n → (place : ℕ) → i ≤ place → place < i + n → get_or xs place d ≡ of place
+  made_from zero i made place low high = absurd (omega arith)
+  made_from (suc n) i (after, x, element, called, rest) place low high =
+      let one = computes i x after called in
+      elim (cases_eq place i) [
+        | inl e ↦ ap (λ p. get_or xs p d) e ∙ element.1 d ∙ one.1 ∙ ap of (sym e)
+        | inr apart ↦ made_from n (i + 1) (subst (λ s. IsFromFnResultFrom g s xs (i + 1) n) one.0 rest) place (omega arith) (omega arith)
+      ]
+
+  pub made_by : {n : ℕ} → IsFromFnResult g f xs n → (place : ℕ) → place < n → get_or xs place d ≡ of place
+  made_by {n} made place l = made_from n 0 made.each place (omega arith) (omega arith)
