@@ -1,23 +1,26 @@
 -- The computed test of a range says what Within says, and a table has few rows.
-use Rattle.std.proofs.Common.{◌≡◌, ℕ, zero, suc, ◌+◌, take, sym, refl, add-one, ◌<◌, ◌≤◌, Bool, true, ◌&&◌, leb, List, length, get_or, ap, ◌∙◌, arith}
+use Rattle.std.proofs.Common.{◌≡◌, ℕ, zero, suc, ◌+◌, ◌<◌, ◌≤◌, Bool, true, ◌&&◌, leb, List, length, get_or, take, sym, refl, ap, ◌∙◌, add-one, arith}
 use Rattle.std.proofs.Math.Bool.{and_comm}
 use Rattle.std.proofs.lemmas.List.{length-take, take_all}
 use Rattle.std.proofs.lemmas.List.Folds.{list_all_more}
 use Rattle.std.proofs.lemmas.Slice.Zip.{length-zip, get_or-zip}
-use Rattle.std.specs.List.{list_all, zip}
 use Rattle.std.proofs.lemmas.Bool.{and_parts, and_from, leb-true, le-leb}
+use Rattle.std.specs.List.{list_all, zip}
 use Rattle.table.specs.declared.row.Row.{Row}
 use Rattle.table.specs.declared.rows.Table.{Table as Rows}
 use Rattle.table.specs.Rows.{row, view, filler}
 use Rattle.table.proofs.Placed.{nth_next}
-use Rattle.bounds.specs.Sounds.{all_to_at, all_to_from}
 use Rattle.bounds.specs.Questions.{all_to}
+use Rattle.bounds.specs.Sounds.{all_to_at, all_to_from}
 use Rattle.orders.specs.declared.range.Range.{Range}
 use Rattle.orders.specs.Ranges.{low, high, Within, withinb}
 
--- a row's ends lie within it, computed
-abbrev pub liesb : List Row → Range → ℕ → Bool
-liesb rows r k = leb (row rows k).wcet (low r k) && (leb (low r k) (high r k) && leb (high r k) (row rows k).deadline)
+-- a low and a high lie within a row, computed
+abbrev pub lies : Row × (ℕ × ℕ) → Bool
+lies p = leb p.0.wcet p.1.0 && (leb p.1.0 p.1.1 && leb p.1.1 p.0.deadline)
+
+abbrev liesb : List Row → Range → ℕ → Bool
+liesb rows r k = lies (row rows k, (low r k, high r k))
 
 -- what holds of each of the first n elements of a list, by number
 all_to_list : {A : Type 0} (q : A → Bool) (p : ℕ → Bool) (xs : List A) (d : A) (n : ℕ) → n ≤ length xs → ((i : ℕ) → i < n → q (get_or xs i d) ≡ p (i + 1)) → list_all q (take n xs) ≡ all_to p n
@@ -29,10 +32,6 @@ all_to_list q p xs d (suc n) le same =
     ∙ and_comm (list_all q (take n xs)) (q (get_or xs n d))
     ∙ ap (λ b. b && list_all q (take n xs)) (same n (omega arith) ∙ ap p (add-one n))
     ∙ ap (λ b. p (suc n) && b) (all_to_list q p xs d n (omega arith) (λ i l. same i (omega arith)))
-
--- a low and a high lie within a row, computed
-abbrev pub lies : Row × (ℕ × ℕ) → Bool
-lies p = leb p.0.wcet p.1.0 && (leb p.1.0 p.1.1 && leb p.1.1 p.0.deadline)
 
 -- the rows, each with its low and its high, are a range where each low and high lies within its row
 pub within_zipped : (rows : List Row) (r : Range) → length rows ≤ length r.lows → length rows ≤ length r.highs → list_all lies (zip rows (zip r.lows r.highs)) ≡ withinb rows r

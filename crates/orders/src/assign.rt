@@ -14,8 +14,8 @@ use table::row::Row;
 use table::rows::Table;
 
 // Whether a low and a high lie from the row's wcet to its deadline, the low at most the high.
-fn lies_within(row: Row, low: u32, high: u32) -> bool
-    ensures { result ≡ (nat_le row.wcet low && (nat_le low high && nat_le high row.deadline)) }
+fn lies_within(row: &Row, low: u32, high: u32) -> bool
+    ensures { result ≡ (nat_le row.now.wcet low && (nat_le low high && nat_le high row.now.deadline)) }
 {
     row.wcet() <= low && low <= high && high <= row.deadline()
 }
@@ -29,7 +29,7 @@ pub(crate) fn is_range(table: &Table<Row>, range: &Range) -> bool
         .rows()
         .iter()
         .zip(ends)
-        .all(|(&row, (&low, &high))| lies_within(row, low, high))
+        .all(|(row, (&low, &high))| lies_within(row, low, high))
 }
 
 // All tasks of `rows` rows, as a set.

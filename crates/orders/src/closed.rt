@@ -1,4 +1,4 @@
-// A range of a table that no order passes.
+// A closed range of a table: no order passes it under the test.
 ghost use Rattle.table.specs.Rows.{view};
 ghost use Rattle.orders.specs.Ranges.{Within, Closed};
 
