@@ -1,11 +1,11 @@
 -- The assigner finds an order exactly when the range is open, from the laws alone.
-use Rattle.std.proofs.Common.{option_and_then, ◌≡◌, ℕ, zero, suc, ◌+◌, ◌-◌, ◌<◌, ◌≤◌, Bool, true, false, List, [], ◌∷◌, ◌++◌, length, take, set, Some, None, Option, sym, refl, ap, ◌∙◌, subst, inl, inr, add-one, arith, MatchOption}
-use Rattle.std.proofs.lemmas.List.{append-nil, length-append, get_or_append_left, get_or_at, append_assoc, set_comm}
+use Rattle.std.proofs.Common.{◌≡◌, ℕ, zero, suc, ◌+◌, ◌<◌, ◌≤◌, Bool, true, false, List, [], ◌∷◌, ◌++◌, length, take, Some, None, Option, option_and_then, sym, refl, ap, ◌∙◌, subst, inl, inr, add-one, arith, MatchOption}
+use Rattle.std.proofs.lemmas.List.{append-nil, length-append, get_or_append_left, get_or_at, append_assoc}
 use Rattle.std.proofs.lemmas.Option.{none-some}
 use Rattle.std.proofs.lemmas.Bool.{cases_Bool, cases_eq, cases_lt, cond-true, cond-false, and_parts, and_from, both_ways, leb-true, le-leb, false≢true}
 use Rattle.table.specs.declared.row.Row.{Row}
 use Rattle.table.specs.Places.{nth, put}
-use Rattle.table.proofs.Placed.{put_at, nth_put_same, nth_put_other, nth_replicate, length_put}
+use Rattle.table.proofs.Placed.{nth_put_same, nth_put_other, nth_replicate, length_put}
 use Rattle.bounds.specs.Questions.{Sound, In, NoMore, Laws}
 use Rattle.bounds.specs.Loads.{sum_over}
 use Rattle.bounds.specs.Orders.{task_at, Order, first}
@@ -17,6 +17,7 @@ use Rattle.orders.specs.declared.range.Range.{Range}
 use Rattle.orders.specs.Ranges.{high, Within, withinb, Passes, Admits, Closed}
 use Rattle.orders.specs.Assigner.{at_most, full, candidate, fill, assigned, Assigns, Settles, LowestNumbered, FillsLowest}
 use Rattle.orders.proofs.Sets.{out, was_in, still_in, put_back, first_length, member_first, not_first, every, same_set, first_same, count_all, count_out, none_in, full_length, full_in, full_out, first_out}
+use Rattle.orders.proofs.Puts.{put_apart}
 use Rattle.orders.proofs.Withins.{within_test}
 
 -- an answer is at most a number, computed and as a fact
@@ -37,12 +38,6 @@ at_most_less None None x h y = y
 at_most_less None (Some b) x h y = absurd h
 at_most_less (Some a) None x h y = absurd (false≢true y)
 at_most_less (Some a) (Some b) x h y = le-leb a x (omega (arith, h, leb-true b x y))
-
-put_comm : (s : List Bool) (k p : ℕ) → (k ≡ p → ⊥) → 1 ≤ k → 1 ≤ p → put (put s k false) p false ≡ put (put s p false) k false
-put_comm s k p d a b =
-    put_at (put s k false) p false b ∙ ap (λ u. set u (p - 1) false) (put_at s k false a)
-    ∙ set_comm s (k - 1) (p - 1) false false (λ e. d (omega arith))
-    ∙ sym (put_at (put s p false) k false a ∙ ap (λ u. set u (k - 1) false) (put_at s p false b))
 
 module _ {T : Type 0} {answer : T → List Row → ℕ → List Bool → List ℕ → Option ℕ} (laws : Laws answer) (t : T) (rows : List Row) (r : Range) where
   abbrev ok : List Bool → ℕ → Bool
@@ -83,7 +78,7 @@ module _ {T : Type 0} {answer : T → List Row → ℕ → List Bool → List �
     | inl q ↦ subst (λ n. Fillable (suc l) (put left n false)) q rest
     | inr d ↦
         let later = exchange l (put left k false) p (fewer left k p (λ q. d (sym q)) h) rest in
-        lowest k inside (fewer left p k d passed) (subst (Fillable l) (put_comm left k p d (ok_low left k passed) (ok_low left p h)) later)
+        lowest k inside (fewer left p k d passed) (subst (Fillable l) (put_apart left k p false false (ok_low left k passed) (ok_low left p h) d) later)
   ]
 
   abbrev Nothing : ℕ → Type 0

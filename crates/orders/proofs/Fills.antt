@@ -1,16 +1,16 @@
 -- Steps of the assigner's loop.
-use Rattle.std.proofs.Common.{option_and_then, ◌≡◌, ℕ, zero, suc, ◌+◌, ◌-◌, ◌<◌, ◌≤◌, Bool, true, false, List, [], ◌∷◌, length, get_or, take, drop, set, replicate, Some, None, Option, sym, refl, ap, ◌∙◌, arith}
+use Rattle.std.proofs.Common.{◌≡◌, ℕ, zero, suc, ◌+◌, ◌-◌, ◌<◌, ◌≤◌, Bool, true, false, List, [], ◌∷◌, length, get_or, take, drop, set, replicate, Some, None, Option, option_and_then, sym, refl, ap, ◌∙◌, arith}
 use lib.Seq.{take-set-lt}
 use Rattle.std.proofs.lemmas.List.{drop-set, length-take-le, drop_all, length-set, length-replicate, get_or-set_other}
 use Rattle.std.proofs.lemmas.Bool.{cond-true, cond-false}
 use Rattle.table.specs.declared.row.Row.{Row}
 use Rattle.table.specs.Places.{put}
 use Rattle.table.proofs.Placed.{nth_at, nth_next, put_at, nth_replicate}
+use Rattle.bounds.specs.Orders.{task_at}
 use Rattle.bounds.specs.Responses.{least_from}
 use Rattle.orders.specs.declared.range.Range.{Range}
 use Rattle.orders.specs.Ranges.{withinb}
 use Rattle.orders.specs.Assigner.{at_most, full, candidate, fill, assigned, Assigns}
-use Rattle.bounds.specs.Orders.{task_at}
 
 -- the tasks placed so far, once one more is placed above them
 placed_more : (tasks : List ℕ) (n level k : ℕ) → 0 < level → level ≤ n → n ≤ length tasks → k ∷ drop level (take n tasks) ≡ drop (level - 1) (take n (set tasks (level - 1) k))

@@ -34,6 +34,7 @@ module _ {T : Type 0} {answer : T → List Row → ℕ → List Bool → List �
   pub open_or_closed : (r : Range) → Within rows r → Open answer t rows r ⊎ Shut r
   open_or_closed r within = by_answer r within (assigned answer t rows r) refl
 
+  -- an end is grown once no room is left
   grown_at : (end : End) (r : Range) → Within rows r → (k : ℕ) → Names rows k → (q : Range) → MovedOut answer t rows end r k 0 q → Shut q → EndGrown answer t rows end r k q
   grown_at Low r within k names q out shut = record {
     value = low r k - out.by;

@@ -1,7 +1,8 @@
+pub mod Chains
+pub mod Puts
 pub mod Withins
 pub mod Sets
 pub mod Fills
-pub mod Searches
 pub mod Audsley
 pub mod Narrows
 pub mod Moves

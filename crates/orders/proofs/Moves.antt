@@ -1,17 +1,18 @@
 -- An end of a range moved out.
-use Rattle.std.proofs.Common.{◌≡◌, ℕ, ◌+◌, ◌-◌, ◌<◌, ◌≤◌, List, length, get_or, set, sym, ap, subst, ◌∙◌, inl, inr, arith}
-use Rattle.std.proofs.lemmas.List.{get_or_past, set-set, set-get_or}
+use Rattle.std.proofs.Common.{◌≡◌, ℕ, ◌+◌, ◌-◌, ◌<◌, ◌≤◌, List, length, get_or, ap, subst, ◌∙◌, inl, inr, arith}
+use Rattle.std.proofs.lemmas.List.{get_or_past}
 use Rattle.std.proofs.lemmas.Bool.{cases_eq, cases_lt}
 use Rattle.table.specs.declared.row.Row.{Row}
 use Rattle.table.specs.Places.{nth, put}
 use Rattle.table.specs.Rows.{row, Names}
-use Rattle.table.proofs.Placed.{nth_at, put_at, nth_next, put_next, nth_put_same, nth_put_other}
+use Rattle.table.proofs.Placed.{nth_at, nth_next, nth_put_same, nth_put_other}
 use Rattle.bounds.specs.Sounds.{row_read}
 use Rattle.orders.specs.declared.range.Range.{Range}
 use Rattle.orders.specs.declared.end.End.{End}
 use Rattle.orders.specs.declared.end.End.TheVariants.{Low, High}
 use Rattle.orders.specs.Ranges.{low, high, Within, Contains}
 use Rattle.orders.specs.Growth.{with_low, with_high, moved, span}
+use Rattle.orders.proofs.Puts.{put_same, put_twice}
 
 -- a number above 0 stands in the list
 stands : (xs : List ℕ) (k : ℕ) → 1 ≤ k → 1 ≤ nth xs k 0 → k ≤ length xs
@@ -93,10 +94,6 @@ module _ {shown rows : List Row} (same : shown ≡ rows) {place : ℕ} {one : Ro
       let w = within (place + 1) (omega arith, omega arith) in
       (omega (arith, nth_next r.highs place 0, w.2), omega (arith, nth_next r.highs place 0))
 
--- a place written by its number
-pub put_written : (xs : List ℕ) (place : ℕ) (f : ℕ → ℕ) → set xs place (f (get_or xs place 0)) ≡ put xs (place + 1) (f (nth xs (place + 1) 0))
-put_written xs place f = sym (put_next xs place (f (get_or xs place 0))) ∙ ap (λ v. put xs (place + 1) (f v)) (sym (nth_next xs place 0))
-
 -- the same for either end
 pub moved_within : (rows : List Row) (r : Range) → Within rows r → (k : ℕ) → Names rows k → (end : End) (by : ℕ) → by ≤ span end rows r k → Within rows (moved end r k by)
 moved_within rows r within k names Low by h = within_low rows r within k names (low r k - by) (omega (arith, (within k names).0)) (omega arith)
@@ -107,17 +104,11 @@ moved_contains rows r within k names Low a b h = contains_low rows r within k na
 moved_contains rows r within k names High a b h = contains_high rows r within k names (high r k + a) (high r k + b) (omega arith)
 
 -- not moved at all
-put_same : (xs : List ℕ) (k : ℕ) → 1 ≤ k → put xs k (nth xs k 0) ≡ xs
-put_same xs k low = put_at xs k (nth xs k 0) low ∙ ap (set xs (k - 1)) (nth_at xs k 0 low) ∙ set-get_or xs (k - 1) 0
-
 pub moved_none : (end : End) (r : Range) (k : ℕ) → 1 ≤ k → moved end r k 0 ≡ r
-moved_none Low r k low = ap (λ xs. record { lows = xs; highs = r.highs }) (ap (put r.lows k) (omega arith) ∙ put_same r.lows k low)
-moved_none High r k low = ap (λ xs. record { lows = r.lows; highs = xs }) (ap (put r.highs k) (omega arith) ∙ put_same r.highs k low)
+moved_none Low r k low = ap (λ xs. record { lows = xs; highs = r.highs }) (ap (put r.lows k) (omega arith) ∙ put_same r.lows k 0 low)
+moved_none High r k low = ap (λ xs. record { lows = r.lows; highs = xs }) (ap (put r.highs k) (omega arith) ∙ put_same r.highs k 0 low)
 
 -- moved twice
-put_twice : (xs : List ℕ) (k a b : ℕ) → 1 ≤ k → put (put xs k a) k b ≡ put xs k b
-put_twice xs k a b low = put_at (put xs k a) k b low ∙ ap (λ ys. set ys (k - 1) b) (put_at xs k a low) ∙ set-set xs (k - 1) a b ∙ sym (put_at xs k b low)
-
 module _ (rows : List Row) (r : Range) (within : Within rows r) (k : ℕ) (names : Names rows k) where
   pub moved_twice : (end : End) (a b : ℕ) → moved end (moved end r k a) k b ≡ moved end r k (a + b)
   moved_twice Low a b =

@@ -1,6 +1,6 @@
 -- Sets of tasks: what is in them, how many, and the first tasks of an order.
 use Rattle.std.proofs.Common.{◌≡◌, ℕ, zero, suc, ◌+◌, ◌-◌, ◌<◌, ◌≤◌, Bool, true, false, cond, not, ltb, List, length, get_or, set, sym, refl, ap, ◌∙◌, inl, inr, mul-one, add-one, arith}
-use Rattle.std.proofs.lemmas.List.{ext_get_or, get_or_past, get_or-set_same, get_or-set_other, length-set, set-set, set-get_or, length-replicate}
+use Rattle.std.proofs.lemmas.List.{ext_get_or, get_or_past, get_or-set_same, get_or-set_other, length-set, length-replicate}
 use Rattle.std.proofs.lemmas.Bool.{cases_eq, cases_Bool, cases_lt, cond-true, cond-false, both_ways, lt-ltb, le-ltb}
 use Rattle.table.specs.Places.{nth, put}
 use Rattle.table.proofs.Placed.{nth_at, nth_next, put_at, nth_put_same, nth_put_other, nth_replicate, length_put, nth_none}
@@ -11,6 +11,7 @@ use Rattle.bounds.specs.Orders.{task_at, Order, first}
 use Rattle.bounds.proofs.Picked.{count_none, count_set}
 use Rattle.bounds.specs.Sounds.{in_low}
 use Rattle.bounds.specs.Sums.{sum_le}
+use Rattle.orders.proofs.Puts.{put_same, put_twice}
 
 -- two sets with the same tasks in 32 places are one
 pub same_set : (s u : List Bool) → length s ≡ 32 → length u ≡ 32 → ((k : ℕ) → 1 ≤ k → k ≤ 32 → nth s k false ≡ nth u k false) → s ≡ u
@@ -37,12 +38,7 @@ still_in s k j d y = nth_put_other s k j false false d ∙ y
 
 -- out and in again, or in and out again, leaves the set as it was
 pub put_back : (s : List Bool) (k : ℕ) (b : Bool) → nth s k false ≡ b → 1 ≤ k → put (put s k (not b)) k b ≡ s
-put_back s k b is low =
-    put_at (put s k (not b)) k b low
-    ∙ ap (λ u. set u (k - 1) b) (put_at s k (not b) low)
-    ∙ set-set s (k - 1) (not b) b
-    ∙ ap (set s (k - 1)) (sym is ∙ nth_at s k false low)
-    ∙ set-get_or s (k - 1) false
+put_back s k b is low = put_twice s k (not b) b low ∙ ap (put s k) (sym is) ∙ put_same s k false low
 
 pub first_length : (order : List ℕ) (p : ℕ) → length (first order p) ≡ 32
 unfolding first

@@ -1,9 +1,9 @@
 -- The computed test of a range says what Within says.
-use Rattle.std.proofs.Common.{◌≡◌, ℕ, sym, refl, ◌≤◌, Bool, true, ◌&&◌, leb, List, length, get_or, ap, ◌∙◌, arith}
+use Rattle.std.proofs.Common.{◌≡◌, ℕ, sym, refl, ◌≤◌, Bool, true, leb, List, length, get_or, ap, ◌∙◌, arith}
 use Rattle.std.proofs.lemmas.List.{take_all}
 use Rattle.std.proofs.lemmas.Slice.Zip.{length-zip, get_or-zip}
-use Rattle.std.specs.List.{list_all, zip}
 use Rattle.std.proofs.lemmas.Bool.{and_parts, and_from, leb-true, le-leb}
+use Rattle.std.specs.List.{list_all, zip}
 use Rattle.table.specs.declared.row.Row.{Row}
 use Rattle.table.specs.Rows.{row, filler, spans}
 use Rattle.table.proofs.Placed.{nth_next}
@@ -12,13 +12,12 @@ use Rattle.bounds.specs.Sounds.{all_to_at, all_to_from}
 use Rattle.orders.specs.declared.range.Range.{Range}
 use Rattle.orders.specs.Ranges.{low, high, Within, withinb}
 
--- a row's ends lie within it, computed
-abbrev pub liesb : List Row → Range → ℕ → Bool
-liesb rows r k = leb (row rows k).wcet (low r k) && (leb (low r k) (high r k) && leb (high r k) (row rows k).deadline)
-
 -- a low and a high lie within a row, computed
 abbrev pub lies : Row × (ℕ × ℕ) → Bool
 lies p = spans p.0 p.1.0 p.1.1
+
+abbrev liesb : List Row → Range → ℕ → Bool
+liesb rows r k = lies (row rows k, (low r k, high r k))
 
 -- the rows, each with its low and its high, are a range where each low and high lies within its row
 pub within_zipped : (rows : List Row) (r : Range) → length rows ≤ length r.lows → length rows ≤ length r.highs → list_all lies (zip rows (zip r.lows r.highs)) ≡ withinb rows r

@@ -1,8 +1,8 @@
-// A range of a table that no order passes.
+// A closed range of a table: no order passes it under the test.
 ghost use Rattle.table.specs.Rows.{view};
 ghost use Rattle.orders.specs.Ranges.{Within, Closed};
 
-pub(crate) mod ends;
+mod ends;
 
 use crate::range::Range;
 use bounds::test::Test;

@@ -3,7 +3,7 @@ use Rattle.table.specs.Rows.{row, view}
 use Rattle.table.proofs.Placed.{nth_next}
 use Rattle.orders.specs.declared.end.End.TheVariants.{Low, High}
 use Rattle.orders.specs.Growth.{span}
-use Rattle.orders.proofs.Moves.{put_written}
+use Rattle.orders.proofs.Puts.{put_written}
 use Rattle.orders.proofs.closed.ClosedRange.moved.Goals as goal
 
 pub overflow_sub-range : goal.overflow_sub-range
@@ -24,9 +24,9 @@ overflow_add-range g c =
 pub returns-in-Low : goal.returns-in-Low
 returns-in-Low g c =
     let r = c.args.self.now.range in
-    rw c.in-Low.is (ap (λ xs. record { lows = xs; highs = r.highs }) (put_written r.lows c.args.place (λ v. v - c.args.by)))
+    rw c.in-Low.is (ap (λ xs. record { lows = xs; highs = r.highs }) (put_written r.lows c.args.place 0 (λ v. v - c.args.by)))
 
 pub returns-in-High : goal.returns-in-High
 returns-in-High g c =
     let r = c.args.self.now.range in
-    rw c.in-High.is (ap (λ xs. record { lows = r.lows; highs = xs }) (put_written r.highs c.args.place (λ v. v + c.args.by)))
+    rw c.in-High.is (ap (λ xs. record { lows = r.lows; highs = xs }) (put_written r.highs c.args.place 0 (λ v. v + c.args.by)))

@@ -1,4 +1,4 @@
--- The first number from 1 to n that passes a test, as `find` over 1..=n answers it, is the least.
+-- What `find` over 1..=n answers.
 use Rattle.std.proofs.Common.{◌≡◌, ℕ, zero, suc, ◌+◌, ◌-◌, Bool, true, false, cond, List, ◌∷◌, length, Some, sym, refl, ap, ◌∙◌, subst, arith}
 use Rattle.std.proofs.iter.runs.Sources.{nat_range_inclusive_steps}
 use Rattle.std.proofs.lemmas.Iterator.{YieldsList}
@@ -8,10 +8,11 @@ use Rattle.std.specs.List.{find, range_with_len}
 use Rattle.std.specs.Range.{range_inclusive_start, range_inclusive_end, range_inclusive_exhausted, range_inclusive_len}
 use Rattle.bounds.specs.Responses.{least_from}
 
+-- how many numbers are left
 abbrev count : ℕ → ℕ → Bool → ℕ
 count = range_inclusive_len (λ x y. y - x)
 
--- the numbers that are left
+-- and which
 abbrev left : RangeInclusive ℕ → List ℕ
 left s = range_with_len s.start (count s.start s.end s.exhausted)
 
@@ -33,7 +34,7 @@ yields_from_1 {s} n start end fresh =
     subst (YieldsList nat_range_inclusive_steps (λ x. x) s) whole
     (YieldsList-from_shown nat_range_inclusive_steps (λ x. x) left (λ s t h. ap (λ n. length (range_with_len s.start n)) h.1.0) step s)
 
--- what `find` answers over those numbers
+-- the first of the numbers that passes a test is the least
 pub find_least : (p : ℕ → Bool) (k n : ℕ) → find p (range_with_len k n) ≡ least_from p k n
 unfolding least_from
 find_least p k zero = refl
