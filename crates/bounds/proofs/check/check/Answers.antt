@@ -8,21 +8,6 @@ use Rattle.bounds.proofs.Handed.{as_handed}
 use Rattle.bounds.proofs.Holding.{miss_when}
 use Rattle.bounds.proofs.check.check.Goals as goal
 
-pub returns-in_err-ordered : goal.returns-in_err-ordered
-returns-in_err-ordered g c =
-    let is : c.from_residual.result ≡ Err c.in_err-ordered.field-0.0 = search rules in
-    asks_map (λ e. is ∙ ap Err e) (λ a. missed (λ h. a.1 h.0) (is ∙ ap Err (a.0 a.1))) c.in_err-ordered.ensures.refused
-
-pub returns-then-not-are_estimates : goal.returns-then-not-are_estimates
-returns-then-not-are_estimates g c =
-    met (as_handed (λ t o. 1 ≤ length (view t)) c.in_ok-ordered.ensures.parts c.in_ok-ordered.ordered.some)
-    (missed (λ h. both_ways _ c.if-not-are_estimates.true (c.are_estimates.ensures.1 (subst (λ rows. Estimates rows c.args.estimates.now) (sym c.rows.ensures.value) h.1))) refl)
-
-pub first_miss-requires : goal.first_miss-requires
-first_miss-requires g c =
-    let estimates = subst (λ rows. Estimates rows c.args.estimates.now) c.rows.ensures.value (c.are_estimates.ensures.0 c.if-not-are_estimates.false) in
-    estimates.size ∙ sym (ap (λ t. length (view t)) c.in_ok-ordered.ensures.parts.0)
-
 pub returns : goal.returns
 returns g c =
     let parts = c.in_ok-ordered.ensures.parts in

@@ -19,10 +19,3 @@ returns-then-not-is_some_and g c =
     let asked = c.ask-bound.ensures ∙ ap (g.T.Test.answer c.args.test.now (view c.args.ordered.now.table.now) (get_or c.args.ordered.now.order.now c.loop-task.task-index 0) c.loop-task.above) c.padded-all.ensures in
     miss_found g.T.Test.answer c.args.test.now (view c.args.ordered.now.table.now) c.args.ordered.now.order.now c.args.estimates.now c.loop-task.above c.loop-task.task-index c.loop-task.invariant c.args.ordered.now.each_once (omega (arith, c.args.ordered.now.each_once.size)) c.ask-bound.result asked (λ h. both_ways _ c.if-not-is_some_and.true ((meets_from _ _ _ _ (λ x called. search rules) c.is_some_and.ensures).1 h))
 
-pub returns : goal.returns
-returns g c = met_all g.T.Test.answer c.args.test.now (view c.args.ordered.now.table.now) c.args.ordered.now.order.now c.args.estimates.now c.loop-task.above c.loop-task.task-index c.loop-task.invariant (omega arith)
-
-pub bounds-above-task : goal.bounds-above-task
-bounds-above-task g c =
-    let row = c.args.ordered.now.each_once.rows c.loop-task.task-index (omega (arith, c.args.ordered.now.each_once.size)) in
-    omega (arith, row.1, few_rows c.args.ordered.now.table.now)
