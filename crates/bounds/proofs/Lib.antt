@@ -8,9 +8,9 @@ pub mod Making
 pub mod Misses
 pub mod Padded
 pub mod Picked
-pub mod Places
 pub mod Posing
 pub mod Skips
+pub mod Sounding
 pub mod Tallies
 pub mod Wcets
 pub mod Writes
