@@ -1,12 +1,12 @@
 -- The greatest number left: a run over the places that are not chosen and have a number above 0, for the one with the greatest.
-use Rattle.std.proofs.Common.{◌≡◌, ℕ, zero, suc, ◌+◌, ◌<◌, ◌≤◌, Bool, true, false, not, ◌&&◌, ltb, List, ◌∷◌, map, length, get_or, Some, None, Option, MatchOption, IfSome, IsSomeAnd, [], sym, refl, ap, ◌∙◌, subst, inl, inr, arith}
+use Rattle.std.proofs.Common.{◌≡◌, ℕ, zero, suc, ◌+◌, ◌<◌, ◌≤◌, Bool, true, false, not, ◌&&◌, ltb, List, ◌∷◌, get_or, Some, None, Option, MatchOption, IfSome, IsSomeAnd, [], sym, refl, ap, ◌∙◌, subst, inl, inr, arith}
 use Rattle.std.proofs.lemmas.Bool.{cases_Bool, cases_eq, cases_lt, cond-true, cond-false, and_from, and_parts, both_ways, lt-ltb, ltb-true, not-true, not_from_false}
 use Rattle.std.proofs.lemmas.Bool.Decides.{nat_tests}
 use Rattle.std.proofs.lemmas.Iterator.{YieldsList, items_from_drains}
 use Rattle.std.proofs.lemmas.List.{nil_from_length}
 use Rattle.std.proofs.lemmas.List.Elements.{All-nil, All-contains, All-head, All-tail, All-same, filter_passes, All-filter, All-weaker}
 use Rattle.std.proofs.lemmas.List.FromFn.{length-range_with_len, get_or-range_with_len}
-use Rattle.std.proofs.iter.runs.Made.{took, at-is}
+use Rattle.std.proofs.iter.runs.Made.{took}
 use Rattle.std.specs.List.{filter, range_with_len, All, Contains}
 use Rattle.std.specs.Option.{option_map}
 use Rattle.std.specs.Fn.{CalledAt}

@@ -1,5 +1,5 @@
 -- A posed question has the answers of the question itself, and an unsound one is late.
-use Rattle.std.proofs.Common.{◌≡◌, ℕ, Bool, cond, List, Some, None, Option, sym, ap, ◌∙◌, inl, inr}
+use Rattle.std.proofs.Common.{◌≡◌, ℕ, Bool, cond, List, Some, None, Option, ap, ◌∙◌, inl, inr}
 use Rattle.std.proofs.lemmas.Bool.{cases_Bool, cond-false}
 use Rattle.table.specs.declared.row.Row.{Row}
 use Rattle.table.specs.Rows.{view}

@@ -1,5 +1,5 @@
 -- The tally of the loads, load by load.
-use Rattle.std.proofs.Common.{◌≡◌, ℕ, ◌+◌, ◌*◌, ◌<◌, ◌≤◌, min, cond, ltb, List, Some, None, Option, get_or, sym, ap, ◌∙◌, subst, inl, inr, mul-one, arith}
+use Rattle.std.proofs.Common.{◌≡◌, ℕ, ◌+◌, ◌*◌, ◌<◌, ◌≤◌, min, cond, ltb, List, Some, None, Option, get_or, sym, ap, subst, inl, inr, mul-one, arith}
 use Rattle.std.specs.Option.{option_map_or}
 use Rattle.std.proofs.lemmas.Bool.{cases_eq, cases_Bool, cond-true, cond-false, lt-ltb, le-ltb, ltb-false}
 use Rattle.table.specs.Places.{nth}

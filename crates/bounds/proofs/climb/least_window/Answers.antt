@@ -13,7 +13,7 @@ returns-then-tally-count c =
     let wcet : c.wcet-wcet.result ≡ (own_row q).wcet = c.wcet-wcet.ensures ∙ ap (λ (r : Row). r.wcet) c.own-own.ensures in
     let deadline : c.deadline.result ≡ (own_row q).deadline = c.deadline.ensures ∙ ap (λ (r : Row). r.deadline) c.own-own.ensures in
     turn_found c.count-count.result (omega (arith, c.count-count.ensures, c.args.m.ok)) (own_row q) load c.loop-cap.cap c.loop-cap.invariant.0 c.loop-cap.invariant.1
-    c.wcet-wcet.result wcet c.held_loads-held.result c.tally_of-tally.result c.held_loads-held.ensures.held c.tally_of-tally.ensures.sums
+    c.wcet-wcet.result wcet c.held_loads-held.result c.of-tally.result c.held_loads-held.ensures.held c.of-tally.ensures.sums
     (omega (arith, c.loop-cap-test.true, wcet, deadline))
     c.if-tally-count.true
     ∙ ap (λ m. least_fit m (own_row q) load) c.count-count.ensures
@@ -26,7 +26,7 @@ loop-cap-preserved c =
       omega (arith, c.next_cap-cap.ensures.next),
       subst (Passed c.count-count.result (own_row q) load) (sym c.next_cap-cap.ensures.next)
           (turn_passed c.count-count.result (omega (arith, c.count-count.ensures, c.args.m.ok)) (own_row q) load c.loop-cap.cap c.loop-cap.invariant.0 c.loop-cap.invariant.1
-          c.wcet-wcet.result wcet c.held_loads-held.result c.tally_of-tally.result c.held_loads-held.ensures.held c.tally_of-tally.ensures.sums),
+          c.wcet-wcet.result wcet c.held_loads-held.result c.of-tally.result c.held_loads-held.ensures.held c.of-tally.ensures.sums),
     )
 
 pub returns : goal.returns

@@ -1,4 +1,4 @@
-use Rattle.std.proofs.Common.{◌≡◌, ◌+◌, sym, ap, ◌∙◌, arith, rules}
+use Rattle.std.proofs.Common.{◌+◌, sym, ap, ◌∙◌, rules}
 use Rattle.bounds.specs.Questions.{fitsb}
 use Rattle.bounds.specs.Sounds.{fits_row, fits_none}
 use Rattle.bounds.proofs.question.Question.fits_at.Goals as goal
