@@ -9,9 +9,9 @@ pub mod Meets
 pub mod Misses
 pub mod Padded
 pub mod Picked
-pub mod Places
 pub mod Posing
 pub mod Skips
+pub mod Sounding
 pub mod Spans
 pub mod Tallies
 pub mod Wcets

@@ -68,9 +68,6 @@ module _ (held : List ℕ) (y : ℕ) (t : Tally) (tallied : Tallied held 32 y t)
         | inr far ↦ jumps m z t.least pos tallied.least h (omega arith)
       ]
 
-  pub next_higher : (m : ℕ) → 0 < m → m * y ≤ t.sum → y < next_cap t m
-  next_higher m pos h = omega (arith, le-div y t.sum m pos (omega (arith, mul_comm y m)))
-
 -- a window fits exactly when its load is below m times its cap
 module _ (m : ℕ) (pos : 0 < m) (i : Row) (load : ℕ → ℕ) (l : ℕ) (low : i.wcet ≤ l) where
   pub fits_below : load l < m * cap_of i l → leb (i.wcet + load l / m) l ≡ true

@@ -26,14 +26,3 @@ module _ (f : ℕ → ℕ) (xs : List ℕ) (p : ℕ) (w : Written f xs p) (l : p
     ];
     rest = λ j m n. get_or-set_other xs p j x 0 (λ e. omega arith) ∙ w.rest j (omega arith) n;
   }
-
-  -- a place that is left as it is has 0
-  pub written_zero : f (p + 1) ≡ 0 → Written f xs (p + 1)
-  written_zero is = record {
-    long = w.long;
-    done = λ j m. elim (cases_eq j p) [
-      | inl e ↦ w.rest j (omega arith) (omega arith) ∙ sym is ∙ ap (λ i. f (i + 1)) (sym e)
-      | inr d ↦ w.done j (omega arith)
-    ];
-    rest = λ j m n. w.rest j (omega arith) n;
-  }

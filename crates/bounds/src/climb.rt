@@ -1,7 +1,6 @@
 // The climb to the least window that fits its load. What cannot fit is skipped.
-ghost use Rattle.std.specs.Prelude.{◌≡◌, ℕ, ◌<◌, ◌≤◌, List};
-ghost use Rattle.table.specs.Places.{nth};
-ghost use Rattle.bounds.specs.Climbs.{load_of, Held, NeverFalls, Tallied, Limited, NoneDo, next_cap as cap_after, climbs};
+ghost use Rattle.std.specs.Prelude.{◌≡◌, ◌≤◌};
+ghost use Rattle.bounds.specs.Climbs.{load_of, Held, NeverFalls, climbs};
 ghost use Rattle.bounds.specs.Posing.{own_row};
 ghost use Rattle.bounds.specs.Questions.{asked};
 ghost use Rattle.bounds.specs.Responses.{least_fit};
@@ -40,47 +39,6 @@ fn held_loads(q: &Posed<'_>, limit: Option<u32>, window: u32) -> [u32; 32]
     mixed(&carried, &plain, &chosen)
 }
 
-// What the loads make up at a cap.
-fn tally_of(held: &[u32; 32], cap: u32) -> Tally
-    requires short { cap ≤ 1000000 }
-    requires small { (k : ℕ) → 1 ≤ k → k ≤ 32 → nth held.now k 0 ≤ 2000000 }
-    ensures sums { Tallied held.now 32 cap result }
-    ensures limits { Limited result }
-{
-    let mut tally = Tally {
-        sum: 0,
-        over: 0,
-        least: None,
-        rest: 0,
-    };
-    for &load in held {
-        if load > cap {
-            tally.sum += cap;
-            tally.over += 1;
-            tally.least = Some(tally.least.map_or(load, |least| least.min(load)));
-        } else {
-            tally.sum += load;
-            tally.rest += load;
-        }
-    }
-    tally
-}
-
-// The next cap at which the loads could fit on `m` processors.
-fn next_cap(tally: Tally, m: u32) -> u32
-    requires some { 1 ≤ m }
-    requires limits { Limited tally }
-    ensures next { result ≡ cap_after tally m }
-    ensures skips { (held : List ℕ) (y : ℕ) → Tallied held 32 y tally → NoneDo held m y result }
-{
-    let jump = match tally.least {
-        None => tally.rest / m + 1,
-        Some(least) if tally.over >= m => least + 1,
-        Some(least) => (tally.rest / (m - tally.over) + 1).min(least + 1),
-    };
-    (tally.sum / m + 1).max(jump)
-}
-
 // The least window from the task's wcet to its deadline that is long enough for its load.
 fn least_window(m: Processors, limit: Option<u32>, q: &Posed<'_>) -> Option<u32>
     ensures { result ≡ least_fit m.count (own_row q.now) (load_of limit q.now) }
@@ -93,11 +51,11 @@ fn least_window(m: Processors, limit: Option<u32>, q: &Posed<'_>) -> Option<u32>
     while cap <= last {
         let window = wcet + cap - 1;
         let held = held_loads(q, limit, window);
-        let tally = tally_of(&held, cap);
+        let tally = Tally::of(&held, cap);
         if tally.sum < count * cap {
             return Some(window);
         }
-        cap = next_cap(tally, count);
+        cap = tally.next_cap(count);
     }
     None
 }

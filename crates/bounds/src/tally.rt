@@ -1,4 +1,8 @@
-// What is added up of the loads that are held in a window.
+// What is added up of the loads that are held in a window, and the next cap that it leaves.
+ghost use Rattle.std.specs.Prelude.{◌≡◌, ℕ, ◌≤◌, List};
+ghost use Rattle.table.specs.Places.{nth};
+ghost use Rattle.bounds.specs.Climbs.{Tallied, Limited, NoneDo, next_cap as cap_after};
+
 #[derive(Clone, Copy)]
 pub(crate) struct Tally {
     /// The loads, each held to the cap.
@@ -9,4 +13,47 @@ pub(crate) struct Tally {
     pub least: Option<u32>,
     /// The sum of the others.
     pub rest: u32,
+}
+
+impl Tally {
+    // What the loads make up at a cap.
+    pub(crate) fn of(held: &[u32; 32], cap: u32) -> Tally
+        requires short { cap ≤ 1000000 }
+        requires small { (k : ℕ) → 1 ≤ k → k ≤ 32 → nth held.now k 0 ≤ 2000000 }
+        ensures sums { Tallied held.now 32 cap result }
+        ensures limits { Limited result }
+    {
+        let mut tally = Tally {
+            sum: 0,
+            over: 0,
+            least: None,
+            rest: 0,
+        };
+        for &load in held {
+            if load > cap {
+                tally.sum += cap;
+                tally.over += 1;
+                tally.least = Some(tally.least.map_or(load, |least| least.min(load)));
+            } else {
+                tally.sum += load;
+                tally.rest += load;
+            }
+        }
+        tally
+    }
+
+    // The next cap at which the loads could fit on `m` processors.
+    pub(crate) fn next_cap(self, m: u32) -> u32
+        requires some { 1 ≤ m }
+        requires limits { Limited self }
+        ensures next { result ≡ cap_after self m }
+        ensures skips { (held : List ℕ) (y : ℕ) → Tallied held 32 y self → NoneDo held m y result }
+    {
+        let jump = match self.least {
+            None => self.rest / m + 1,
+            Some(least) if self.over >= m => least + 1,
+            Some(least) => (self.rest / (m - self.over) + 1).min(least + 1),
+        };
+        (self.sum / m + 1).max(jump)
+    }
 }

@@ -7,7 +7,7 @@ use Rattle.std.specs.List.{list_all, zip}
 use Rattle.table.specs.declared.row.Row.{Row}
 use Rattle.table.specs.Rows.{row, filler, spans}
 use Rattle.table.proofs.Placed.{nth_next}
-use Rattle.bounds.proofs.Places.{all_to_list}
+use Rattle.bounds.proofs.Sounding.{all_to_list}
 use Rattle.bounds.specs.Sounds.{all_to_at, all_to_from}
 use Rattle.orders.specs.declared.range.Range.{Range}
 use Rattle.orders.specs.Ranges.{low, high, Within, withinb}

@@ -28,8 +28,8 @@ fn load_above(q: &Posed<'_>) -> u32
 {
     let own = q.own();
     let mut sum = 0;
-    for (place, row) in q.rows.iter().enumerate() {
-        if q.above[place] {
+    for (row, above) in q.rows.iter().zip(q.above) {
+        if *above {
             let load = carried_load(own, own.deadline(), *row, row.deadline());
             sum += load;
         }

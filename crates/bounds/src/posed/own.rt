@@ -6,7 +6,7 @@ use super::Posed;
 use table::row::Row;
 
 impl Posed<'_> {
-    /// The row of the task.
+    // The row of the task.
     pub(crate) fn own(&self) -> Row
         ensures { result ≡ own_row self.now }
     {

@@ -1,6 +1,6 @@
-use Rattle.std.proofs.Common.{◌≡◌, ◌≤◌, length, Err, sym, refl, ap, ◌∙◌, arith, rules}
+use Rattle.std.proofs.Common.{◌≤◌, length, refl, arith}
 use Rattle.table.specs.Rows.{view}
-use Rattle.table.proofs.Asked.{met, missed, asks_map}
+use Rattle.table.proofs.Asked.{met}
 use Rattle.bounds.specs.Orders.{Order, Found}
 use Rattle.bounds.proofs.Handed.{as_handed}
 use Rattle.bounds.proofs.Holding.{late_when}

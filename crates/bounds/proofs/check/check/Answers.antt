@@ -1,7 +1,6 @@
-use Rattle.std.proofs.Common.{◌≡◌, ◌≤◌, length, Err, sym, refl, ap, ◌∙◌, subst, rules}
-use Rattle.std.proofs.lemmas.Bool.{both_ways}
+use Rattle.std.proofs.Common.{◌≤◌, length, refl, subst}
 use Rattle.table.specs.Rows.{view}
-use Rattle.table.proofs.Asked.{met, missed, asks_map}
+use Rattle.table.proofs.Asked.{met}
 use Rattle.table.proofs.View.{few_rows}
 use Rattle.bounds.specs.Orders.{Order, Estimates, FirstMiss}
 use Rattle.bounds.proofs.Handed.{as_handed}

@@ -1,22 +1,10 @@
-use Rattle.std.proofs.Common.{◌≡◌, ◌<◌, ◌≤◌, sym, ap, ◌∙◌, subst, mul-le-mul, arith}
+use Rattle.std.proofs.Common.{◌≡◌, sym, ap, ◌∙◌, subst, arith}
 use Rattle.table.specs.declared.row.Row.{Row}
 use Rattle.bounds.specs.Posing.{own_row}
-use Rattle.bounds.specs.Climbs.{load_of, next_cap}
+use Rattle.bounds.specs.Climbs.{load_of}
 use Rattle.bounds.specs.Responses.{least_fit}
-use Rattle.bounds.proofs.Skips.{Passed, passed_all, next_higher, turn_found, turn_passed}
+use Rattle.bounds.proofs.Skips.{Passed, passed_all, turn_found, turn_passed}
 use Rattle.bounds.proofs.climb.least_window.Goals as goal
-
-pub held_loads-held-requires : goal.held_loads-held-requires
-held_loads-held-requires c = record {
-  low = omega (arith, c.wcet-wcet.ensures, ap (λ (r : Row). r.wcet) c.own-own.ensures, c.loop-cap.invariant.0);
-  short = omega (arith, c.wcet-wcet.ensures, c.deadline.ensures, c.loop-cap-test.true, c.own-own.result.ok, c.loop-cap.invariant.0);
-}
-
-pub overflow_mul-count : goal.overflow_mul-count
-overflow_mul-count c =
-    let cap : c.loop-cap.cap ≤ 1000000 = omega (arith, c.wcet-wcet.ensures, c.deadline.ensures, c.loop-cap-test.true, c.own-own.result.ok) in
-    let count : c.count-count.result ≤ 16 = omega (arith, c.count-count.ensures, c.args.m.ok) in
-    omega (arith, mul-le-mul count cap)
 
 pub returns-then-tally-count : goal.returns-then-tally-count
 returns-then-tally-count c =
@@ -25,16 +13,10 @@ returns-then-tally-count c =
     let wcet : c.wcet-wcet.result ≡ (own_row q).wcet = c.wcet-wcet.ensures ∙ ap (λ (r : Row). r.wcet) c.own-own.ensures in
     let deadline : c.deadline.result ≡ (own_row q).deadline = c.deadline.ensures ∙ ap (λ (r : Row). r.deadline) c.own-own.ensures in
     turn_found c.count-count.result (omega (arith, c.count-count.ensures, c.args.m.ok)) (own_row q) load c.loop-cap.cap c.loop-cap.invariant.0 c.loop-cap.invariant.1
-    c.wcet-wcet.result wcet c.held_loads-held.result c.tally_of-tally.result c.held_loads-held.ensures.held c.tally_of-tally.ensures.sums
+    c.wcet-wcet.result wcet c.held_loads-held.result c.of-tally.result c.held_loads-held.ensures.held c.of-tally.ensures.sums
     (omega (arith, c.loop-cap-test.true, wcet, deadline))
     c.if-tally-count.true
     ∙ ap (λ m. least_fit m (own_row q) load) c.count-count.ensures
-
-pub loop-cap-smaller : goal.loop-cap-smaller
-loop-cap-smaller c =
-    let higher : c.loop-cap.cap < next_cap c.tally_of-tally.result c.count-count.result =
-    next_higher c.held_loads-held.result c.loop-cap.cap c.tally_of-tally.result c.tally_of-tally.ensures.sums c.count-count.result (omega (arith, c.count-count.ensures, c.args.m.ok)) c.if-tally-count.false in
-    omega (arith, higher, c.next_cap-cap.ensures.next, c.loop-cap-test.true)
 
 pub loop-cap-preserved : goal.loop-cap-preserved
 loop-cap-preserved c =
@@ -44,7 +26,7 @@ loop-cap-preserved c =
       omega (arith, c.next_cap-cap.ensures.next),
       subst (Passed c.count-count.result (own_row q) load) (sym c.next_cap-cap.ensures.next)
           (turn_passed c.count-count.result (omega (arith, c.count-count.ensures, c.args.m.ok)) (own_row q) load c.loop-cap.cap c.loop-cap.invariant.0 c.loop-cap.invariant.1
-          c.wcet-wcet.result wcet c.held_loads-held.result c.tally_of-tally.result c.held_loads-held.ensures.held c.tally_of-tally.ensures.sums),
+          c.wcet-wcet.result wcet c.held_loads-held.result c.of-tally.result c.held_loads-held.ensures.held c.of-tally.ensures.sums),
     )
 
 pub returns : goal.returns

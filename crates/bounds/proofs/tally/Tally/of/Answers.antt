@@ -4,8 +4,8 @@ use Rattle.table.proofs.Placed.{nth_next}
 use Rattle.bounds.specs.declared.tally.Tally.{Tally}
 use Rattle.bounds.specs.Climbs.{Tallied}
 use Rattle.bounds.proofs.Tallies.{tallied_none, tallied_big, tallied_small, least_below, tally_limits}
-use Rattle.bounds.proofs.climb.tally_of.Goals as goal
-use Rattle.bounds.proofs.climb.tally_of.Goals.{then-load-cap, else-load-cap}
+use Rattle.bounds.proofs.tally.Tally.of.Goals as goal
+use Rattle.bounds.proofs.tally.Tally.of.Goals.{then-load-cap, else-load-cap}
 
 pub loop-load-init : goal.loop-load-init
 loop-load-init c = (tallied_none c.args.held.now c.args.cap, tt)
