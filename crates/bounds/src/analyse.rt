@@ -11,7 +11,8 @@ use table::fault::Fault;
 use table::row::Row;
 use table::rows::Table;
 
-// Goes down the order until a task is late, and writes each bound in its row's place.
+// Goes down the order until a task is late, and writes each bound in its row's place. Not one loop with
+// that of `check`: a closure for what differs would have to change what it captures, and is no plainer.
 fn find_bounds<T: Test>(test: &T, ordered: &Ordered<'_>, bounds: &mut [u32]) -> Option<usize>
     requires { length bounds.old ≡ length (view ordered.now.table.now) }
     ensures { Found T.answer test.now (view ordered.now.table.now) ordered.now.order.now result bounds.new }
@@ -37,7 +38,8 @@ fn find_bounds<T: Test>(test: &T, ordered: &Ordered<'_>, bounds: &mut [u32]) -> 
 }
 
 /// Finds the bounds of the order's tasks from the top down, writes row `k`'s in place `k`, and 0 for
-/// the first late task and all below it. The answer is the first late task, if there is one.
+/// the first late task and all below it. The answer is the first late task, if there is one. The list is
+/// the caller's, of numbers, so by the rules what has no bound has 0.
 pub fn analyse<T: Test>(
     test: &T,
     table: &Table<Row>,

@@ -3,7 +3,7 @@ use crate::processors::Processors;
 
 pub mod ask;
 
-#[derive(Clone, Copy)]
+#[derive(Clone, Copy, PartialEq, Eq, Debug)]
 pub struct Da {
     processors: Processors,
 }

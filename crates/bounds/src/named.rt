@@ -5,7 +5,7 @@ use crate::rta::Rta;
 
 pub mod ask;
 
-#[derive(Clone, Copy)]
+#[derive(Clone, Copy, PartialEq, Eq, Debug)]
 pub enum NamedTest {
     ByDeadline(Da),
     ByResponse(Rta),

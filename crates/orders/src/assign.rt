@@ -87,6 +87,7 @@ pub fn assign<T: Test>(test: &T, table: &Table<Row>, range: &Range) -> Option<[u
     let assigner = Assigner { test, table, range };
     let rows = table.len();
     let mut left = all_tasks(rows);
+    // An array with 0 past the last task, since no library crate has a heap.
     let mut order = [0; 32];
     for level in (0..rows).rev() {
         let task = assigner.lowest_passing(&left)?;

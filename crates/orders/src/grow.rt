@@ -21,6 +21,7 @@ pub fn grow<T: Test>(test: &T, table: &Table<Row>, range: &Range) -> Range
     let Some(mut grown) = ClosedRange::new(test, table, *range) else {
         return *range;
     };
+    // The place is an argument, and no slice is read: an iterator would be no plainer.
     for place in 0..table.len() {
         grown = grown.grow_end(End::Low, place).grow_end(End::High, place);
     }

@@ -6,6 +6,7 @@ use std::error::Error;
 use std::fmt;
 
 /// Where on a sheet a fault lies, all counted from 1; 0 means no sheet, no line, or the whole line.
+/// Numbers and no `Option`: by the rules a fault is printed so.
 #[derive(Clone, Copy, PartialEq, Eq, Debug)]
 pub struct Place {
     pub sheet: u32,
@@ -50,7 +51,7 @@ pub enum Fault {
 }
 
 impl Fault {
-    /// The number of the question that was missed.
+    /// The number of the question that was missed: the rules number them, and programs print it.
     pub fn number(self) -> u32
         ensures { result ≡ number_of self }
     {

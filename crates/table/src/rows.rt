@@ -1,4 +1,4 @@
-// A table of 0 to 32 rows, in an array with a length.
+// A table of 0 to 32 rows, in an array with a length: no library crate has a heap for a `Vec`.
 ghost use Rattle.std.specs.Prelude.{◌≤◌};
 
 pub mod edit;

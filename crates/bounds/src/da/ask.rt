@@ -13,7 +13,7 @@ use crate::test::Test;
 use table::fault::Fault;
 
 impl Da {
-    /// The test on `m` processors.
+    /// The test on `m` processors. Each test has this maker; a shared one would be no plainer than its two lines.
     pub fn new(m: u32) -> Result<Da, Fault>
         ensures { MadeDa m result }
     {

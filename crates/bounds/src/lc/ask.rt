@@ -12,7 +12,7 @@ use crate::test::Test;
 use table::fault::Fault;
 
 impl Lc {
-    /// The test on `m` processors.
+    /// The test on `m` processors. Each test has this maker; a shared one would be no plainer than its two lines.
     pub fn new(m: u32) -> Result<Lc, Fault>
         ensures made { MadeLc m result }
         ensures meaning { LcMeaning }

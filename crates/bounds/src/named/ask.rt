@@ -12,7 +12,7 @@ use crate::test::Test;
 use table::fault::{Fault, Place};
 
 impl NamedTest {
-    /// The test of this name on `m` processors.
+    /// The test of this name on `m` processors. Two values make it, so it is no `TryFrom`.
     pub fn new(name: &[u8], m: u32) -> Result<NamedTest, Fault>
         ensures { MadeNamed name.now m result }
     {
@@ -30,6 +30,7 @@ impl Test for NamedTest {
 
     ghost kept = { named_laws };
 
+    // A match and no `dyn Test`: a maker may not hand one out, and there is no heap for a `Box`.
     fn ask(&self, q: &Question<'_>) -> Option<u32> {
         match self {
             NamedTest::ByDeadline(test) => test.ask(q),

@@ -1,4 +1,4 @@
-// A number of processors is made here and nowhere else.
+// A number of processors is made here and nowhere else: by `new`, as rows and tests are. `TryFrom` would be no plainer.
 ghost use Rattle.std.specs.Prelude.{◌≡◌};
 ghost use Rattle.bounds.specs.Made.{MadeProcessors};
 

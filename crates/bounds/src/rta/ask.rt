@@ -12,7 +12,7 @@ use crate::test::Test;
 use table::fault::Fault;
 
 impl Rta {
-    /// The test on `m` processors.
+    /// The test on `m` processors. Each test has this maker; a shared one would be no plainer than its two lines.
     pub fn new(m: u32) -> Result<Rta, Fault>
         ensures made { MadeRta m result }
         ensures meaning { RtaMeaning }
