@@ -1,5 +1,5 @@
 // Whether a question is sound.
-ghost use Rattle.std.specs.Prelude.{◌≡◌, ◌+◌, ◌<◌, Decides};
+ghost use Rattle.std.specs.Prelude.{◌≡◌, ◌+◌, ◌<◌, ◌↔◌, IsTrue};
 ghost use Rattle.table.specs.Rows.{view};
 ghost use Rattle.bounds.specs.Posing.{Poses};
 ghost use Rattle.bounds.specs.Questions.{SoundQuestion, fitsb};
@@ -21,7 +21,7 @@ impl<'a> Question<'a> {
 
     /// Whether the question is sound.
     pub fn is_sound(&self) -> bool
-        ensures { Decides result (SoundQuestion self.now) }
+        ensures { IsTrue result ↔ SoundQuestion self.now }
     {
         let task = self.task;
         if task == 0 || task > self.table.len() || self.above[task - 1] {

@@ -1,5 +1,5 @@
 // The edits of a table, and what can be read of it.
-ghost use Rattle.std.specs.Prelude.{◌≡◌, ◌+◌, ◌<◌, [], length, IfOk, IfErr, Decides};
+ghost use Rattle.std.specs.Prelude.{◌≡◌, ◌+◌, ◌<◌, [], ◌↔◌, length, IsTrue, IfOk, IfErr};
 ghost use Rattle.table.specs.declared.fault.Fault.TheVariants.{NoRow};
 ghost use Rattle.table.specs.Rows.{view, Names, Adds, Alters, Removes, Reads};
 
@@ -56,7 +56,7 @@ impl Table<Row> {
 
     /// Whether both tables have the same rows in the same places.
     pub fn same(&self, other: &Table<Row>) -> bool
-        ensures { Decides result (view self.now ≡ view other.now) }
+        ensures { IsTrue result ↔ (view self.now ≡ view other.now) }
     {
         self.rows() == other.rows()
     }
