@@ -26,6 +26,7 @@ fn held_loads(q: &Posed<'_>, limit: Option<u32>, window: u32) -> [u32; 32]
         return carried;
     };
     let wcets = wcets_of(q.rows);
+    // Each field is written out: `..` cannot stand for those of a struct with an invariant.
     let least = Posed {
         rows: q.rows,
         task: q.task,
