@@ -26,6 +26,7 @@ fn held_loads(q: &Posed<'_>, limit: Option<u32>, window: u32) -> [u32; 32]
         return carried;
     };
     let wcets = wcets_of(q.rows);
+    // Each field is written out: `..` cannot stand for those of a struct with an invariant.
     let least = Posed {
         rows: q.rows,
         task: q.task,
@@ -43,7 +44,6 @@ fn held_loads(q: &Posed<'_>, limit: Option<u32>, window: u32) -> [u32; 32]
 fn least_window(m: Processors, limit: Option<u32>, q: &Posed<'_>) -> Option<u32>
     ensures { result ≡ least_fit m.count (own_row q.now) (load_of limit q.now) }
 {
-    let count = m.count();
     let own = q.own();
     let wcet = own.wcet();
     let last = own.deadline() - wcet + 1;
@@ -52,10 +52,10 @@ fn least_window(m: Processors, limit: Option<u32>, q: &Posed<'_>) -> Option<u32>
         let window = wcet + cap - 1;
         let held = held_loads(q, limit, window);
         let tally = Tally::of(&held, cap);
-        if tally.sum < count * cap {
+        if tally.sum < m.count() * cap {
             return Some(window);
         }
-        cap = tally.next_cap(count);
+        cap = tally.next_cap(m);
     }
     None
 }

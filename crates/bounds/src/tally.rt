@@ -3,6 +3,8 @@ ghost use Rattle.std.specs.Prelude.{◌≡◌, ℕ, ◌≤◌, List};
 ghost use Rattle.table.specs.Places.{nth};
 ghost use Rattle.bounds.specs.Climbs.{Tallied, Limited, NoneDo, next_cap as cap_after};
 
+use crate::processors::Processors;
+
 #[derive(Clone, Copy)]
 pub(crate) struct Tally {
     /// The loads, each held to the cap.
@@ -43,17 +45,17 @@ impl Tally {
     }
 
     // The next cap at which the loads could fit on `m` processors.
-    pub(crate) fn next_cap(self, m: u32) -> u32
-        requires some { 1 ≤ m }
-        requires limits { Limited self }
-        ensures next { result ≡ cap_after self m }
-        ensures skips { (held : List ℕ) (y : ℕ) → Tallied held 32 y self → NoneDo held m y result }
+    pub(crate) fn next_cap(self, m: Processors) -> u32
+        requires { Limited self }
+        ensures next { result ≡ cap_after self m.count }
+        ensures skips { (held : List ℕ) (y : ℕ) → Tallied held 32 y self → NoneDo held m.count y result }
     {
+        let count = m.count();
         let jump = match self.least {
-            None => self.rest / m + 1,
-            Some(least) if self.over >= m => least + 1,
-            Some(least) => (self.rest / (m - self.over) + 1).min(least + 1),
+            None => self.rest / count + 1,
+            Some(least) if self.over >= count => least + 1,
+            Some(least) => (self.rest / (count - self.over) + 1).min(least + 1),
         };
-        (self.sum / m + 1).max(jump)
+        (self.sum / count + 1).max(jump)
     }
 }

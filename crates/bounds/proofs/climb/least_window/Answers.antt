@@ -1,8 +1,7 @@
-use Rattle.std.proofs.Common.{◌≡◌, sym, ap, ◌∙◌, subst, arith}
+use Rattle.std.proofs.Common.{◌≡◌, ◌*◌, sym, ap, ◌∙◌, subst, arith}
 use Rattle.table.specs.declared.row.Row.{Row}
 use Rattle.bounds.specs.Posing.{own_row}
 use Rattle.bounds.specs.Climbs.{load_of}
-use Rattle.bounds.specs.Responses.{least_fit}
 use Rattle.bounds.proofs.Skips.{Passed, passed_all, turn_found, turn_passed}
 use Rattle.bounds.proofs.climb.least_window.Goals as goal
 
@@ -12,11 +11,10 @@ returns-then-tally-count c =
     let load = load_of c.args.limit q in
     let wcet : c.wcet-wcet.result ≡ (own_row q).wcet = c.wcet-wcet.ensures ∙ ap (λ (r : Row). r.wcet) c.own-own.ensures in
     let deadline : c.deadline.result ≡ (own_row q).deadline = c.deadline.ensures ∙ ap (λ (r : Row). r.deadline) c.own-own.ensures in
-    turn_found c.count-count.result (omega (arith, c.count-count.ensures, c.args.m.ok)) (own_row q) load c.loop-cap.cap c.loop-cap.invariant.0 c.loop-cap.invariant.1
+    turn_found c.args.m.count (omega (arith, c.args.m.ok)) (own_row q) load c.loop-cap.cap c.loop-cap.invariant.0 c.loop-cap.invariant.1
     c.wcet-wcet.result wcet c.held_loads-held.result c.of-tally.result c.held_loads-held.ensures.held c.of-tally.ensures.sums
     (omega (arith, c.loop-cap-test.true, wcet, deadline))
-    c.if-tally-count.true
-    ∙ ap (λ m. least_fit m (own_row q) load) c.count-count.ensures
+    (omega (arith, c.if-tally-count.true, ap (λ n. n * c.loop-cap.cap) c.count.ensures))
 
 pub loop-cap-preserved : goal.loop-cap-preserved
 loop-cap-preserved c =
@@ -24,8 +22,8 @@ loop-cap-preserved c =
     let load = load_of c.args.limit q in
     let wcet : c.wcet-wcet.result ≡ (own_row q).wcet = c.wcet-wcet.ensures ∙ ap (λ (r : Row). r.wcet) c.own-own.ensures in (
       omega (arith, c.next_cap-cap.ensures.next),
-      subst (Passed c.count-count.result (own_row q) load) (sym c.next_cap-cap.ensures.next)
-          (turn_passed c.count-count.result (omega (arith, c.count-count.ensures, c.args.m.ok)) (own_row q) load c.loop-cap.cap c.loop-cap.invariant.0 c.loop-cap.invariant.1
+      subst (Passed c.args.m.count (own_row q) load) (sym c.next_cap-cap.ensures.next)
+          (turn_passed c.args.m.count (omega (arith, c.args.m.ok)) (own_row q) load c.loop-cap.cap c.loop-cap.invariant.0 c.loop-cap.invariant.1
           c.wcet-wcet.result wcet c.held_loads-held.result c.of-tally.result c.held_loads-held.ensures.held c.of-tally.ensures.sums),
     )
 
@@ -35,6 +33,5 @@ returns c =
     let load = load_of c.args.limit q in
     let wcet : c.wcet-wcet.result ≡ (own_row q).wcet = c.wcet-wcet.ensures ∙ ap (λ (r : Row). r.wcet) c.own-own.ensures in
     let deadline : c.deadline.result ≡ (own_row q).deadline = c.deadline.ensures ∙ ap (λ (r : Row). r.deadline) c.own-own.ensures in
-    sym (passed_all c.count-count.result (omega (arith, c.count-count.ensures, c.args.m.ok)) (own_row q) load c.loop-cap.cap c.loop-cap.invariant.0 c.loop-cap.invariant.1
+    sym (passed_all c.args.m.count (omega (arith, c.args.m.ok)) (own_row q) load c.loop-cap.cap c.loop-cap.invariant.0 c.loop-cap.invariant.1
     (omega (arith, c.loop-cap-test.false, wcet, deadline)))
-    ∙ ap (λ m. least_fit m (own_row q) load) c.count-count.ensures

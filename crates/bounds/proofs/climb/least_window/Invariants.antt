@@ -6,7 +6,7 @@ use Rattle.bounds.proofs.climb.least_window.Given as goal
 
 -- no window below the cap fits
 abbrev pub invariant-loop-cap : goal.invariant-loop-cap
-invariant-loop-cap l = (1 ≤ l.cap) × Passed l.count (own_row l.q) (load_of l.limit l.q) l.cap
+invariant-loop-cap l = (1 ≤ l.cap) × Passed l.m.count (own_row l.q) (load_of l.limit l.q) l.cap
 
 abbrev pub decreases-loop-cap : goal.decreases-loop-cap
 decreases-loop-cap l = l.last + 1 - l.cap
