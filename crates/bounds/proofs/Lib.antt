@@ -15,5 +15,4 @@ pub mod Sounding
 pub mod Spans
 pub mod Tallies
 pub mod Wcets
-pub mod Writes
 pub mod Holding
