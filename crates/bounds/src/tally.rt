@@ -1,7 +1,9 @@
 // What is added up of the loads that are held in a window, and the next cap that it leaves.
 ghost use Rattle.std.specs.Prelude.{◌≡◌, ℕ, ◌≤◌, List};
-ghost use Rattle.table.specs.Places.{nth};
 ghost use Rattle.bounds.specs.Climbs.{Tallied, Limited, NoneDo, next_cap as cap_after};
+
+// A load before the cap is at most a window and a deadline long.
+const LONGEST: u32 = 2_000_000;
 
 #[derive(Clone, Copy)]
 pub(crate) struct Tally {
@@ -9,8 +11,8 @@ pub(crate) struct Tally {
     pub sum: u32,
     /// How many are above the cap.
     pub over: u32,
-    /// The least of those, if there are any.
-    pub least: Option<u32>,
+    /// None of those is below this.
+    pub least: u32,
     /// The sum of the others.
     pub rest: u32,
 }
@@ -19,21 +21,20 @@ impl Tally {
     // What the loads make up at a cap.
     pub(crate) fn of(held: &[u32; 32], cap: u32) -> Tally
         requires short { cap ≤ 1000000 }
-        requires small { (k : ℕ) → 1 ≤ k → k ≤ 32 → nth held.now k 0 ≤ 2000000 }
         ensures sums { Tallied held.now 32 cap result }
         ensures limits { Limited result }
     {
         let mut tally = Tally {
             sum: 0,
             over: 0,
-            least: None,
+            least: LONGEST,
             rest: 0,
         };
         for &load in held {
             if load > cap {
                 tally.sum += cap;
                 tally.over += 1;
-                tally.least = Some(tally.least.map_or(load, |least| least.min(load)));
+                tally.least = tally.least.min(load);
             } else {
                 tally.sum += load;
                 tally.rest += load;
@@ -49,10 +50,10 @@ impl Tally {
         ensures next { result ≡ cap_after self m }
         ensures skips { (held : List ℕ) (y : ℕ) → Tallied held 32 y self → NoneDo held m y result }
     {
-        let jump = match self.least {
-            None => self.rest / m + 1,
-            Some(least) if self.over >= m => least + 1,
-            Some(least) => (self.rest / (m - self.over) + 1).min(least + 1),
+        let jump = if self.over < m {
+            (self.rest / (m - self.over) + 1).min(self.least + 1)
+        } else {
+            self.least + 1
         };
         (self.sum / m + 1).max(jump)
     }
