@@ -14,7 +14,7 @@ use Rattle.bounds.specs.Responses.{Choice, Greatest, carried_loads, plain_load, 
 use Rattle.bounds.specs.Climbs.{Lists, work_at, Picked, Held, NeverFalls}
 use Rattle.bounds.specs.Greatests.{greatest_is, greatest_one}
 use Rattle.bounds.specs.Sums.{sum_same, sum_mono, sum_add}
-use Rattle.bounds.specs.Works.{work_mono, work_le}
+use Rattle.bounds.specs.Works.{work_mono}
 use Rattle.bounds.proofs.Wcets.{wcets_at}
 
 -- a sum over more places, all 0, is the sum before
@@ -70,17 +70,7 @@ module _ (q : Posed) where
   abbrev bare : ℕ → ℕ → ℕ
   bare l k = work (row q.rows.now k) l
 
-  module _ (l : ℕ) (short : l ≤ 1000000) (held : List ℕ) (lists : Lists (work_at q l) held) where
-    -- no load before the cap is longer than the window and a deadline
-    works_small : (k : ℕ) → 1 ≤ k → k ≤ 32 → nth held k 0 ≤ 2000000
-    works_small k low high =
-        elim (cases_Bool (nth q.above.now k false)) [
-          | inl y ↦
-              let names = q.sound.inside k high y in
-              omega (arith, lists k low high, cond-true (nth q.above.now k false) (full l k) 0 y, work_le (row q.rows.now k) (l + nth q.estimates.now k 0 - (row q.rows.now k).wcet), (row q.rows.now k).ok, q.sound.low k names, q.sound.high k names)
-          | inr z ↦ omega (arith, lists k low high, cond-false (nth q.above.now k false) (full l k) 0 z)
-        ]
-
+  module _ (l : ℕ) (held : List ℕ) (lists : Lists (work_at q l) held) where
     pub held_all : Held (carried_loads q.rows.now q.task q.above.now q.estimates.now) (own_row q) l held
     held_all =
         let carry : ℕ → ℕ → ℕ = λ l' k. carried (own_row q) l' (row q.rows.now k) (nth q.estimates.now k 0) in
@@ -97,11 +87,10 @@ module _ (q : Posed) where
                 | inr z ↦ omega (arith, lists k low high, cond-false (nth q.above.now k false) (full l k) 0 z)
               ]) in
               omega (arith, le, sum_rows (carry l'));
-          small = works_small;
         }
 
 -- At most c tasks carry load in: the chosen ones.
-module _ (q : Posed) (c l : ℕ) (low : (own_row q).wcet ≤ l) (short : l ≤ 1000000)
+module _ (q : Posed) (c l : ℕ) (low : (own_row q).wcet ≤ l)
     (with' without extras : List ℕ) (chosen : List Bool) (held costs : List ℕ) (cost : costs ≡ wcets q.rows.now)
     (carries : Lists (work_at q l) with')
     (plains : Lists (λ k. cond (nth q.above.now k false) (work (row q.rows.now k) (l + nth costs k 0 - (row q.rows.now k).wcet)) 0) without)
@@ -213,13 +202,6 @@ module _ (q : Posed) (c l : ℕ) (low : (own_row q).wcet ≤ l) (short : l ≤ 1
         omega (arith, sum_mono (λ k. min (nth held k 0) (cap_of (own_row q) l)) (part l) 32 (part_later l (omega arith)), sum_mono (part l) (λ k. min (nth held k 0) (cap_of (own_row q) l)) 32 part_here, parts l, most);
     later = λ l' h.
         omega (arith, sum_mono (λ k. min (nth held k 0) (cap_of (own_row q) l')) (part l') 32 (part_later l' h), parts l', (greatest_is q.above.now (gain l') c (length q.rows.now)).exceeded is_chosen choice);
-    small = λ k a b. elim (cases_Bool (is_chosen k)) [
-      | inl y ↦ omega (arith, mixes k a b, cond-true (is_chosen k) (nth with' k 0) (nth without k 0) y, works_small q l short with' carries k a b)
-      | inr z ↦ elim (cases_Bool (above k)) [
-        | inl up ↦ omega (arith, mixes k a b, cond-false (is_chosen k) (nth with' k 0) (nth without k 0) z, plain_at k a b up, work_le (row q.rows.now k) l)
-        | inr out ↦ omega (arith, mixes k a b, cond-false (is_chosen k) (nth with' k 0) (nth without k 0) z, plain_out k a b out)
-      ]
-    ];
   }
 
 -- what holds the load of a window shows that a longer one has no less, whoever carries load in

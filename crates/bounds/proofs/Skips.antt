@@ -1,13 +1,13 @@
 -- The climb skips no window that fits.
-use Rattle.std.proofs.Common.{◌≡◌, ℕ, ◌+◌, ◌-◌, ◌*◌, ◌/◌, ◌<◌, ◌≤◌, min, Bool, true, false, cond, ltb, leb, List, Option, Some, None, sym, ap, ◌∙◌, subst, inl, inr, mul-le-mul_right, mul_comm, add-mul, div-mul-le_self, arith}
+use Rattle.std.proofs.Common.{◌≡◌, ℕ, ◌+◌, ◌-◌, ◌*◌, ◌/◌, ◌<◌, ◌≤◌, min, Bool, true, false, cond, ltb, leb, List, Some, None, sym, ap, ◌∙◌, subst, inl, inr, mul-le-mul_right, mul_comm, add-mul, div-mul-le_self, arith}
 use Rattle.std.proofs.lemmas.Nat.{div_below, le-div}
-use Rattle.std.proofs.lemmas.Bool.{cases_Bool, cases_lt, cond-true, cond-false, ltb-true, ltb-false, leb-true, leb-false, le-leb, lt-leb}
+use Rattle.std.proofs.lemmas.Bool.{cases_Bool, cases_lt, cond-true, cond-false, ltb-true, ltb-false, le-leb, lt-leb}
 use Rattle.table.specs.declared.row.Row.{Row}
 use Rattle.table.specs.Places.{nth}
 use Rattle.bounds.specs.declared.tally.Tally.{Tally}
 use Rattle.bounds.specs.Loads.{cap_of}
 use Rattle.bounds.specs.Responses.{least_fit}
-use Rattle.bounds.specs.Climbs.{held_to, Held, LeastOver, Tallied, jump, next_cap}
+use Rattle.bounds.specs.Climbs.{held_to, Held, Tallied, jump, next_cap}
 use Rattle.bounds.specs.Leasts.{least_found, least_missing}
 use Rattle.bounds.specs.Sums.{sum_mono, sum_add, total_constant}
 
@@ -22,42 +22,29 @@ module _ (held : List ℕ) (y : ℕ) (t : Tally) (tallied : Tallied held 32 y t)
   rises : (z : ℕ) → y ≤ z → held_to held 32 y ≤ held_to held 32 z
   rises z h = sum_mono _ _ 32 (λ k low high. omega arith)
 
-  -- the loads that are at most y are all there at a higher cap
-  rest_le : (z : ℕ) → y ≤ z → t.rest ≤ held_to held 32 z
-  rest_le z h =
-      omega (
-        arith,
-        tallied.rest,
-        sum_mono (λ k. cond (big k) 0 (nth held k 0)) (λ k. min (nth held k 0) z) 32 (λ k low high. elim (cases_Bool (big k)) [
-          | inl b ↦ omega (arith, cond-true (big k) 0 (nth held k 0) b)
-          | inr s ↦ omega (arith, cond-false (big k) 0 (nth held k 0) s, ltb-false y (nth held k 0) s)
-        ]),
-      )
-
   -- up to a number that each of the others is at least, each of those is at the cap
-  split : (b z : ℕ) → LeastOver held 32 y (Some b) → y ≤ z → z ≤ b → t.over * z + t.rest ≤ held_to held 32 z
-  split b z least h le =
+  split : (z : ℕ) → y ≤ z → z ≤ t.least → t.over * z + t.rest ≤ held_to held 32 z
+  split z h le =
       let parts = sum_mono (λ k. cond (big k) z 0 + cond (big k) 0 (nth held k 0)) (λ k. min (nth held k 0) z) 32 (λ k low high. elim (cases_Bool (big k)) [
-        | inl y ↦ omega (arith, cond-true (big k) 0 (nth held k 0) y, cond-true (big k) z 0 y, least k low high (ltb-true _ (nth held k 0) y))
+        | inl y ↦ omega (arith, cond-true (big k) 0 (nth held k 0) y, cond-true (big k) z 0 y, tallied.least k low high (ltb-true _ (nth held k 0) y))
         | inr s ↦ omega (arith, cond-false (big k) 0 (nth held k 0) s, cond-false (big k) z 0 s, ltb-false y (nth held k 0) s)
       ]) in
       omega (arith, parts, sum_add (λ k. cond (big k) z 0) (λ k. cond (big k) 0 (nth held k 0)) 32, total_constant big z 32, ap (λ o. o * z) tallied.over, tallied.rest)
 
   -- no cap from y on that the loads above the cap and the rest rule out can do
-  jumps : (m z : ℕ) (least : Option ℕ) → 0 < m → LeastOver held 32 y least → y ≤ z → z < jump (record t { least = least }) m → m * z ≤ held_to held 32 z
-  jumps m z None pos none h lt = omega (arith, below_div t.rest m z (omega arith), rest_le z h)
-  jumps m z (Some b) pos least h lt =
-      let many = leb m t.over in
-      let both = min (t.rest / (m - t.over) + 1) (b + 1) in
-      elim (cases_Bool many) [
+  jumps : (m z : ℕ) → y ≤ z → z < jump t m → m * z ≤ held_to held 32 z
+  jumps m z h lt =
+      let few = ltb t.over m in
+      let both = min (t.rest / (m - t.over) + 1) (t.least + 1) in
+      elim (cases_Bool few) [
         | inl yes' ↦
-            let is = cond-true many (b + 1) both yes' in
-            omega (arith, split b z least h (omega arith), mul-le-mul_right {m = m} {n = t.over} z (leb-true m t.over yes'))
-        | inr no' ↦
-            let is = cond-false many (b + 1) both no' in
-            let fewer = leb-false m t.over no' in
+            let is = cond-true few both (t.least + 1) yes' in
+            let fewer = ltb-true t.over m yes' in
             let sum : m ≡ t.over + (m - t.over) = omega arith in
-            omega (arith, below_div t.rest (m - t.over) z (omega arith), split b z least h (omega arith), ap (λ k. k * z) sum, add-mul t.over (m - t.over) z)
+            omega (arith, below_div t.rest (m - t.over) z (omega arith), split z h (omega arith), ap (λ k. k * z) sum, add-mul t.over (m - t.over) z)
+        | inr no' ↦
+            let is = cond-false few both (t.least + 1) no' in
+            omega (arith, split z h (omega arith), mul-le-mul_right {m = m} {n = t.over} z (ltb-false t.over m no'))
       ]
 
   -- no cap from y on and below the next one can do
@@ -65,7 +52,7 @@ module _ (held : List ℕ) (y : ℕ) (t : Tally) (tallied : Tallied held 32 y t)
   skips m z pos h lt =
       elim (cases_lt z (t.sum / m + 1)) [
         | inl near ↦ omega (arith, below_div t.sum m z (omega arith), tallied.sum, rises z h)
-        | inr far ↦ jumps m z t.least pos tallied.least h (omega arith)
+        | inr far ↦ jumps m z h (omega arith)
       ]
 
 -- a window fits exactly when its load is below m times its cap

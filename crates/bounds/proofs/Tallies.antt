@@ -1,49 +1,24 @@
 -- The tally of the loads, load by load.
-use Rattle.std.proofs.Common.{◌≡◌, ℕ, ◌+◌, ◌*◌, ◌<◌, ◌≤◌, min, cond, ltb, List, Some, None, Option, get_or, sym, ap, subst, inl, inr, mul-one, arith}
-use Rattle.std.specs.Option.{option_map_or}
+use Rattle.std.proofs.Common.{◌≡◌, ℕ, ◌+◌, ◌*◌, ◌<◌, ◌≤◌, min, cond, ltb, List, get_or, sym, ap, inl, inr, mul-one, arith}
 use Rattle.std.proofs.lemmas.Bool.{cases_eq, cases_Bool, cond-true, cond-false, lt-ltb, le-ltb, ltb-false}
 use Rattle.table.specs.Places.{nth}
 use Rattle.table.proofs.Placed.{nth_next}
 use Rattle.bounds.specs.declared.tally.Tally.{Tally}
-use Rattle.bounds.specs.Climbs.{LeastOver, Tallied}
+use Rattle.bounds.specs.Climbs.{Tallied}
 use Rattle.bounds.specs.Sums.{sum_none, sum_more, sum_le}
 
-pub tallied_none : (held : List ℕ) (y : ℕ) → Tallied held 0 y (record { sum = 0; over = 0; least = None; rest = 0 })
+pub tallied_none : (held : List ℕ) (y : ℕ) → Tallied held 0 y (record { sum = 0; over = 0; least = 2000000; rest = 0 })
 tallied_none held y = record { sum = sym (sum_none _); over = sym (sum_none _); least = λ k low high. absurd (omega arith); rest = sym (sum_none _) }
 
-least_big : (held : List ℕ) (p y load : ℕ) (x : Option ℕ) → load ≡ nth held (p + 1) 0 → LeastOver held p y x → LeastOver held (p + 1) y (Some (option_map_or (λ b. min b load) x load))
-least_big held p y load None is none = λ k low high b. elim (cases_eq k (p + 1)) [
-  | inl e ↦ omega (arith, ap (λ j. nth held j 0) e)
-  | inr d ↦ absurd (omega (arith, none k low (omega arith)))
-]
-least_big held p y load (Some a) is least = λ k low high b. elim (cases_eq k (p + 1)) [
-  | inl e ↦ omega (arith, ap (λ j. nth held j 0) e)
-  | inr d ↦ omega (arith, least k low (omega arith) b)
-]
-
-least_small : (held : List ℕ) (p y : ℕ) (x : Option ℕ) → nth held (p + 1) 0 ≤ y → LeastOver held p y x → LeastOver held (p + 1) y x
-least_small held p y None h none = λ k low high. elim (cases_eq k (p + 1)) [
-  | inl e ↦ omega (arith, ap (λ j. nth held j 0) e)
-  | inr d ↦ none k low (omega arith)
-]
-least_small held p y (Some a) h least = λ k low high b. elim (cases_eq k (p + 1)) [
-  | inl e ↦ absurd (omega (arith, ap (λ j. nth held j 0) e))
-  | inr d ↦ least k low (omega arith) b
-]
-
-pub least_below : (load : ℕ) (x : Option ℕ) → option_map_or (λ b. min b load) x load ≤ load
-least_below load None = omega arith
-least_below load (Some b) = omega arith
-
 module _ (held : List ℕ) (p y : ℕ) (t : Tally) (tallied : Tallied held p y t) where
-  pub tallied_big : (least : ℕ) → least ≡ option_map_or (λ b. min b (get_or held p 0)) t.least (get_or held p 0) → y < get_or held p 0 → Tallied held (p + 1) y (record { sum = t.sum + y; over = t.over + 1; least = Some least; rest = t.rest })
+  pub tallied_big : (least : ℕ) → least ≡ min t.least (get_or held p 0) → y < get_or held p 0 → Tallied held (p + 1) y (record { sum = t.sum + y; over = t.over + 1; least = least; rest = t.rest })
   tallied_big least is h =
       let x = nth_next held p 0 in
       let big = lt-ltb y (nth held (p + 1) 0) (omega arith) in
       record {
         sum = omega (arith, tallied.sum, sum_more (λ k. min (nth held k 0) y) p);
         over = omega (arith, tallied.over, sum_more (λ k. cond (ltb y (nth held k 0)) 1 0) p, cond-true {A = ℕ} _ 1 0 big);
-        least = subst (λ b. LeastOver held (p + 1) y (Some b)) (sym is) (least_big held p y (get_or held p 0) t.least (sym x) tallied.least);
+        least = λ k low high b. elim (cases_eq k (p + 1)) [ inl e ↦ omega (arith, ap (λ j. nth held j 0) e) | inr d ↦ omega (arith, tallied.least k low (omega arith) b) ];
         rest = omega (arith, tallied.rest, sum_more (λ k. cond (ltb y (nth held k 0)) 0 (nth held k 0)) p, cond-true _ 0 (nth held (p + 1) 0) big);
       }
 
@@ -54,7 +29,7 @@ module _ (held : List ℕ) (p y : ℕ) (t : Tally) (tallied : Tallied held p y t
       record {
         sum = omega (arith, tallied.sum, sum_more (λ k. min (nth held k 0) y) p);
         over = omega (arith, tallied.over, sum_more (λ k. cond (ltb y (nth held k 0)) 1 0) p, cond-false {A = ℕ} _ 1 0 small);
-        least = least_small held p y t.least (omega arith) tallied.least;
+        least = λ k low high b. elim (cases_eq k (p + 1)) [ inl e ↦ absurd (omega (arith, ap (λ j. nth held j 0) e)) | inr d ↦ tallied.least k low (omega arith) b ];
         rest = omega (arith, tallied.rest, sum_more (λ k. cond (ltb y (nth held k 0)) 0 (nth held k 0)) p, cond-false _ 0 (nth held (p + 1) 0) small);
       }
 

@@ -1,6 +1,5 @@
 -- The climb to the least window that fits: what its parts give. How the code gets there; the tests are pinned in Responses.
-use Rattle.std.specs.Option.{option_map_or}
-use Rattle.std.specs.Prelude.{◌≡◌, ℕ, ◌+◌, ◌-◌, ◌*◌, ◌/◌, ◌<◌, ◌≤◌, min, max, Bool, false, cond, ltb, List, Some, None, Option, MatchOption, IfSome, nat_le, nat_lt, slice_index, slice_index_or}
+use Rattle.std.specs.Prelude.{◌≡◌, ℕ, ◌+◌, ◌-◌, ◌*◌, ◌/◌, ◌<◌, ◌≤◌, min, max, Bool, false, cond, ltb, List, Some, None, Option, MatchOption, nat_lt, slice_index, slice_index_or}
 use Rattle.table.specs.declared.row.Row.{Row}
 use Rattle.table.specs.Places.{nth}
 use Rattle.table.specs.Rows.{row}
@@ -51,36 +50,33 @@ GreatestLeft numbers chosen best =
 pub record Held (load : ℕ → ℕ) (i : Row) (l : ℕ) (held : List ℕ) : Type 0 where
   pub here : held_to held 32 (cap_of i l) ≡ load l
   pub later : (l' : ℕ) → l ≤ l' → held_to held 32 (cap_of i l') ≤ load l'
-  pub small : (k : ℕ) → 1 ≤ k → k ≤ 32 → nth held k 0 ≤ 2000000
 
 -- from a window l on, the load never falls
 abbrev pub NeverFalls : (ℕ → ℕ) → ℕ → Type 0
 NeverFalls load l = (l' : ℕ) → l ≤ l' → load l ≤ load l'
 
--- a number is at most each of the first n loads that are above y; none where no load is
-abbrev pub LeastOver : List ℕ → ℕ → ℕ → Option ℕ → Type 0
-LeastOver held n y least =
-    MatchOption least ((k : ℕ) → 1 ≤ k → k ≤ n → nth held k 0 ≤ y)
-    (λ b. (k : ℕ) → 1 ≤ k → k ≤ n → y < nth held k 0 → b ≤ nth held k 0)
+-- none of the first n loads that are above y is below b
+abbrev pub NoneBelow : List ℕ → ℕ → ℕ → ℕ → Type 0
+NoneBelow held n y b = (k : ℕ) → 1 ≤ k → k ≤ n → y < nth held k 0 → b ≤ nth held k 0
 
 -- the tally of the first n loads of a list at a cap y
 pub record Tallied (held : List ℕ) (n y : ℕ) (t : Tally) : Type 0 where
   pub sum : t.sum ≡ held_to held n y
   pub over : t.over ≡ total_of (λ k. ltb y (nth held k 0)) (λ _. 1) n
-  pub least : LeastOver held n y t.least
+  pub least : NoneBelow held n y t.least
   pub rest : t.rest ≡ sum_to (λ k. cond (nat_lt y (nth held k 0)) 0 (nth held k 0)) n
 
 -- no cap from y on and below z can do: at each, the loads make up at least m times the cap
 abbrev pub NoneDo : List ℕ → ℕ → ℕ → ℕ → Type 0
 NoneDo held m y z = (x : ℕ) → y ≤ x → x < z → m * x ≤ held_to held 32 x
 
--- a tally of 32 loads of at most 2,000,000 each, at a cap of at most 1,000,000
+-- a tally of 32 loads at a cap of at most 1,000,000
 abbrev pub Limited : Tally → Type 0
-Limited t = (t.sum ≤ 32000000) × (t.over ≤ 32) × IfSome t.least (λ b. b ≤ 2000000) × (t.rest ≤ 32000000)
+Limited t = (t.sum ≤ 32000000) × (t.over ≤ 32) × (t.least ≤ 2000000) × (t.rest ≤ 32000000)
 
 -- a cap below which none can do, by the loads above the cap and the rest
 abbrev pub jump : Tally → ℕ → ℕ
-jump t m = option_map_or (λ b. cond (nat_le m t.over) (b + 1) (min (t.rest / (m - t.over) + 1) (b + 1))) t.least (t.rest / m + 1)
+jump t m = cond (nat_lt t.over m) (min (t.rest / (m - t.over) + 1) (t.least + 1)) (t.least + 1)
 
 -- the next cap to try on m processors
 abbrev pub next_cap : Tally → ℕ → ℕ

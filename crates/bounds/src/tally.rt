@@ -1,9 +1,11 @@
 // What is added up of the loads that are held in a window, and the next cap that it leaves.
 ghost use Rattle.std.specs.Prelude.{◌≡◌, ℕ, ◌≤◌, List};
-ghost use Rattle.table.specs.Places.{nth};
 ghost use Rattle.bounds.specs.Climbs.{Tallied, Limited, NoneDo, next_cap as cap_after};
 
 use crate::processors::Processors;
+
+// A load before the cap is at most a window and a deadline long.
+const LONGEST: u32 = 2_000_000;
 
 #[derive(Clone, Copy)]
 pub(crate) struct Tally {
@@ -11,8 +13,8 @@ pub(crate) struct Tally {
     pub sum: u32,
     /// How many are above the cap.
     pub over: u32,
-    /// The least of those, if there are any.
-    pub least: Option<u32>,
+    /// None of those is below this.
+    pub least: u32,
     /// The sum of the others.
     pub rest: u32,
 }
@@ -21,21 +23,20 @@ impl Tally {
     // What the loads make up at a cap.
     pub(crate) fn of(held: &[u32; 32], cap: u32) -> Tally
         requires short { cap ≤ 1000000 }
-        requires small { (k : ℕ) → 1 ≤ k → k ≤ 32 → nth held.now k 0 ≤ 2000000 }
         ensures sums { Tallied held.now 32 cap result }
         ensures limits { Limited result }
     {
         let mut tally = Tally {
             sum: 0,
             over: 0,
-            least: None,
+            least: LONGEST,
             rest: 0,
         };
         for &load in held {
             if load > cap {
                 tally.sum += cap;
                 tally.over += 1;
-                tally.least = Some(tally.least.map_or(load, |least| least.min(load)));
+                tally.least = tally.least.min(load);
             } else {
                 tally.sum += load;
                 tally.rest += load;
@@ -51,10 +52,10 @@ impl Tally {
         ensures skips { (held : List ℕ) (y : ℕ) → Tallied held 32 y self → NoneDo held m.count y result }
     {
         let count = m.count();
-        let jump = match self.least {
-            None => self.rest / count + 1,
-            Some(least) if self.over >= count => least + 1,
-            Some(least) => (self.rest / (count - self.over) + 1).min(least + 1),
+        let jump = if self.over < count {
+            (self.rest / (count - self.over) + 1).min(self.least + 1)
+        } else {
+            self.least + 1
         };
         (self.sum / count + 1).max(jump)
     }

@@ -15,7 +15,7 @@ returns-in_default c =
     let q = c.args.q.now in
     let l = c.args.window in
     let holds = subst (λ limit. Held (load_of limit q) (own_row q) l c.works-carried.result) (sym c.in_default.is)
-    (held_all q l c.requires.short c.works-carried.result c.works-carried.ensures) in
+    (held_all q l c.works-carried.result c.works-carried.ensures) in
     record { held = holds; rises = never_falls (load_of c.args.limit q) (own_row q) l c.works-carried.result holds }
 
 pub returns : goal.returns
@@ -25,7 +25,7 @@ returns c =
     let wcet : c.wcet.result ≡ (own_row q).wcet = c.wcet.ensures ∙ ap (λ (r : Row). r.wcet) c.own.ensures in
     let gains = subst (λ w. Lists (λ k. min (nth c.works-carried.result k 0) (l - w + 1) - min (nth c.works-plain.result k 0) (l - w + 1)) c.extras_of-extras.result) wcet c.extras_of-extras.ensures in
     let holds = subst (λ limit. Held (load_of limit q) (own_row q) l c.mixed.result) (sym c.in-Some.is)
-    (held_limited q c.in-Some.limit l c.requires.low c.requires.short
+    (held_limited q c.in-Some.limit l c.requires.low
     c.works-carried.result c.works-plain.result c.extras_of-extras.result c.picks-chosen.result c.mixed.result c.wcets_of-wcets.result
     c.wcets_of-wcets.ensures c.works-carried.ensures c.works-plain.ensures gains c.picks-chosen.ensures c.mixed.ensures) in
     record { held = holds; rises = never_falls (load_of c.args.limit q) (own_row q) l c.mixed.result holds }

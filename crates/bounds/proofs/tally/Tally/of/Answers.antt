@@ -1,14 +1,12 @@
-use Rattle.std.proofs.Common.{◌≡◌, ◌+◌, ◌≤◌, min, get_or, IfSome, sym, subst, arith, rules}
-use Rattle.std.specs.Option.{option_map_or}
-use Rattle.table.proofs.Placed.{nth_next}
+use Rattle.std.proofs.Common.{◌≡◌, ◌+◌, ◌≤◌, min, get_or, sym, subst, arith, rules}
 use Rattle.bounds.specs.declared.tally.Tally.{Tally}
 use Rattle.bounds.specs.Climbs.{Tallied}
-use Rattle.bounds.proofs.Tallies.{tallied_none, tallied_big, tallied_small, least_below, tally_limits}
+use Rattle.bounds.proofs.Tallies.{tallied_none, tallied_big, tallied_small, tally_limits}
 use Rattle.bounds.proofs.tally.Tally.of.Goals as goal
 use Rattle.bounds.proofs.tally.Tally.of.Goals.{then-load-cap, else-load-cap}
 
 pub loop-load-init : goal.loop-load-init
-loop-load-init c = (tallied_none c.args.held.now c.args.cap, tt)
+loop-load-init c = (tallied_none c.args.held.now c.args.cap, omega arith)
 
 pub overflow_add-tally : goal.overflow_add-tally
 overflow_add-tally c = omega (arith, tally_limits c.args.held.now c.loop-load.load-index c.args.cap c.loop-load.tally c.loop-load.invariant.0 c.requires.short, c.requires.short)
@@ -28,15 +26,11 @@ loop-load-preserved c =
     let p = c.loop-load.load-index in
     let y = c.args.cap in
     let t = c.loop-load.tally in
-    let load = get_or held p 0 in
-    let turn : Tally → Type 0 = λ u. Tallied held (p + 1) y u × IfSome u.least (λ b. b ≤ 2000000) in
+    let turn : Tally → Type 0 = λ u. Tallied held (p + 1) y u × (u.least ≤ 2000000) in
     elim c.if-load-cap.branch [
       | then-load-cap w ↦
-          let least : w.map_or.result ≡ option_map_or (λ b. min b load) t.least load = search rules in
-          subst turn (sym w.tally-is) (
-            tallied_big held p y t c.loop-load.invariant.0 w.map_or.result least w.if-load-cap.true,
-            omega (arith, least, least_below load t.least, c.requires.small (p + 1) (omega arith) (omega arith), nth_next held p 0),
-          )
+          let least : w.min.result ≡ min t.least (get_or held p 0) = search rules in
+          subst turn (sym w.tally-is) (tallied_big held p y t c.loop-load.invariant.0 w.min.result least w.if-load-cap.true, omega (arith, least, c.loop-load.invariant.1))
       | else-load-cap w ↦ subst turn (sym w.tally-is) (tallied_small held p y t c.loop-load.invariant.0 w.if-load-cap.false, c.loop-load.invariant.1)
     ]
 
