@@ -5,8 +5,8 @@ ghost use Rattle.table.specs.Faults.{number_of, layer_of, place_of, words_of};
 use std::error::Error;
 use std::fmt;
 
+// Numbers and no `Option`: by the rules a fault is printed so.
 /// Where on a sheet a fault lies, all counted from 1; 0 means no sheet, no line, or the whole line.
-/// Numbers and no `Option`: by the rules a fault is printed so.
 #[derive(Clone, Copy, PartialEq, Eq, Debug)]
 pub struct Place {
     pub sheet: u32,

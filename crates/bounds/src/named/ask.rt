@@ -12,7 +12,8 @@ use crate::test::Test;
 use table::fault::{Fault, Place};
 
 impl NamedTest {
-    /// The test of this name on `m` processors. Two values make it, so it is no `TryFrom`.
+    // Two values make it, so it is no `TryFrom`.
+    /// The test of this name on `m` processors.
     pub fn new(name: &[u8], m: u32) -> Result<NamedTest, Fault>
         ensures { MadeNamed name.now m result }
     {

@@ -18,10 +18,7 @@ fn is_order(table: &Table<Row>, order: &[usize]) -> bool
     }
     let mut seen = [false; 32];
     for &task in order {
-        if task == 0 || task > rows {
-            return false;
-        }
-        if seen[task - 1] {
+        if task == 0 || task > rows || seen[task - 1] {
             return false;
         }
         seen[task - 1] = true;
@@ -35,7 +32,7 @@ impl Ordered<'_> {
         ensures parts { IfOk result (λ o. (o.table.now ≡ table.now) × (o.order.now ≡ order.now)) }
         ensures refused { IfErr result (λ fault. RefusesOrder (view table.now) order.now fault) }
     {
-        if table.len() == 0 {
+        if table.rows().is_empty() {
             return Err(Fault::Empty);
         }
         if !is_order(table, order) {

@@ -12,7 +12,8 @@ use crate::test::Test;
 use table::fault::Fault;
 
 impl Rta {
-    /// The test on `m` processors. Each test has this maker; a shared one would be no plainer than its two lines.
+    // Each test has this maker, two of them with a theorem of their own; a shared one would be no plainer.
+    /// The test on `m` processors.
     pub fn new(m: u32) -> Result<Rta, Fault>
         ensures made { MadeRta m result }
         ensures meaning { RtaMeaning }

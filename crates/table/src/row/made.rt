@@ -13,6 +13,7 @@ impl Row {
         deadline: 1,
     };
 
+    // Three numbers make it, so it is no `TryFrom`.
     /// The row of these numbers, or a refusal where they make none.
     pub fn new(wcet: u32, period: u32, deadline: u32) -> Result<Row, Fault>
         ensures { MadeRow wcet period deadline result }

@@ -1,7 +1,6 @@
 // The edits of a table, and what can be read of it.
-ghost use Rattle.std.specs.Prelude.{◌≡◌, ◌+◌, ◌<◌, [], ◌↔◌, length, IsTrue, IfOk, IfErr};
-ghost use Rattle.table.specs.declared.fault.Fault.TheVariants.{NoRow};
-ghost use Rattle.table.specs.Rows.{view, Names, Adds, Alters, Removes, Reads};
+ghost use Rattle.std.specs.Prelude.{◌≡◌, [], ◌↔◌, length, IsTrue};
+ghost use Rattle.table.specs.Rows.{view, Adds, Alters, Removes, Reads};
 
 use super::Table;
 use crate::fault::Fault;
@@ -34,26 +33,15 @@ impl Table<Row> {
         &self.rows[0..self.len]
     }
 
-    // The place of row `k`, counted from 0.
-    fn place_of(&self, k: usize) -> Result<usize, Fault>
-        ensures named { IfOk result (λ place. (k ≡ place + 1) × (place < self.now.len)) }
-        ensures none { IfErr result (λ fault. (fault ≡ NoRow) × (Names (view self.now) k → ⊥)) }
-    {
-        if 1 <= k && k <= self.len() {
-            Ok(k - 1)
-        } else {
-            Err(Fault::NoRow)
-        }
-    }
-
     /// Row `k`.
     pub fn row(&self, k: usize) -> Result<Row, Fault>
         ensures { Reads self.now k result }
     {
-        let place = self.place_of(k)?;
+        let place = self.place_of(k).ok_or(Fault::NoRow)?;
         Ok(self.rows[place])
     }
 
+    // The rules name this call. A derived `==` would compare the places past the end too.
     /// Whether both tables have the same rows in the same places.
     pub fn same(&self, other: &Table<Row>) -> bool
         ensures { IsTrue result ↔ (view self.now ≡ view other.now) }
@@ -78,9 +66,7 @@ impl Table<Row> {
     pub fn alter(&mut self, k: usize, wcet: u32, period: u32, deadline: u32) -> Result<(), Fault>
         ensures { Alters self.old k wcet period deadline result self.new }
     {
-        let Some(row) = self.row_mut(k) else {
-            return Err(Fault::NoRow);
-        };
+        let row = self.row_mut(k).ok_or(Fault::NoRow)?;
         *row = Row::new(wcet, period, deadline)?;
         Ok(())
     }
@@ -89,7 +75,7 @@ impl Table<Row> {
     pub fn remove(&mut self, k: usize) -> Result<(), Fault>
         ensures { Removes self.old k result self.new }
     {
-        let place = self.place_of(k)?;
+        let place = self.place_of(k).ok_or(Fault::NoRow)?;
         self.rows[place..self.len].rotate_left(1);
         self.len -= 1;
         Ok(())

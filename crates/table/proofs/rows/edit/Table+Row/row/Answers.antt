@@ -1,4 +1,4 @@
-use Rattle.std.proofs.Common.{Ok, sym, ap, ◌∙◌, rules}
+use Rattle.std.proofs.Common.{◌≡◌, ◌+◌, ◌<◌, IfSome, Ok, sym, ap, ◌∙◌, subst, rules}
 use Rattle.std.proofs.lemmas.List.{get_or_default, get_or-take}
 use Rattle.table.specs.Places.{nth}
 use Rattle.table.specs.Rows.{view}
@@ -10,7 +10,7 @@ pub returns : goal.returns
 returns c =
     let t = c.args.self.now in
     let place = c.in_ok-place.place in
-    let at = c.in_ok-place.ensures.named in
+    let at = subst (λ r. IfSome r (λ p. (c.args.k ≡ p + 1) × (p < t.len))) c.in_ok-place.ensures.ok_part c.place_of.ensures.named in
     met (search rules) (λ d. ap Ok (
     get_or_default t.rows place _ d (search rules)
     ∙ sym (get_or-take t.len t.rows place d at.1)
