@@ -30,11 +30,11 @@ module _ (q : Posed) where
 
   module _ (place : ℕ) (r : Row) (at : row q.rows.now (place + 1) ≡ r) (h : place < length q.rows.now) where
     -- the estimate of the row that is read at a place
-    pub estimate_read : (r.wcet ≤ get_or q.estimates.now place 0) × (get_or q.estimates.now place 0 ≤ 1000000)
+    pub estimate_read : (r.wcet ≤ get_or q.estimates.now place 0) × (get_or q.estimates.now place 0 ≤ r.deadline)
     estimate_read =
         let names : Names q.rows.now (place + 1) = (omega arith, omega arith) in
         let x = nth_next q.estimates.now place 0 in
-        (omega (arith, q.sound.low (place + 1) names, ap (λ (j : Row). j.wcet) at), omega (arith, q.sound.high (place + 1) names, (row q.rows.now (place + 1)).ok))
+        (omega (arith, q.sound.low (place + 1) names, ap (λ (j : Row). j.wcet) at), omega (arith, q.sound.high (place + 1) names, ap (λ (j : Row). j.deadline) at))
 
     pub work_above : (l : ℕ) → get_or q.above.now place false ≡ true → work r (l + get_or q.estimates.now place 0 - r.wcet) ≡ work_at q l (place + 1)
     work_above l y =
@@ -94,7 +94,8 @@ module _ (q : Posed) (c l : ℕ) (low : (own_row q).wcet ≤ l)
     (with' without extras : List ℕ) (chosen : List Bool) (held costs : List ℕ) (cost : costs ≡ wcets q.rows.now)
     (carries : Lists (work_at q l) with')
     (plains : Lists (λ k. cond (nth q.above.now k false) (work (row q.rows.now k) (l + nth costs k 0 - (row q.rows.now k).wcet)) 0) without)
-    (gains : Lists (λ k. min (nth with' k 0) (cap_of (own_row q) l) - min (nth without k 0) (cap_of (own_row q) l)) extras)
+    (cap : ℕ) (cap_is : cap ≡ cap_of (own_row q) l)
+    (gains : Lists (λ k. min (nth with' k 0) cap - min (nth without k 0) cap) extras)
     (picked : Picked extras c chosen)
     (mixes : Lists (λ k. cond (nth chosen k false) (nth with' k 0) (nth without k 0)) held) where
   abbrev is_chosen : ℕ → Bool
@@ -144,7 +145,7 @@ module _ (q : Posed) (c l : ℕ) (low : (own_row q).wcet ≤ l)
   choice = record { inside = λ k y. (chosen_above k y).2; few = omega (arith, picked.few, total_rows is_chosen (λ k y. (chosen_above k y).2) (λ _. 1)) }
 
   gain_at : (k : ℕ) → 1 ≤ k → k ≤ 32 → In q.above.now k → nth extras k 0 ≡ gain l k
-  gain_at k a b y = omega (arith, gains k a b, carry_at k a b y, plain_at k a b y)
+  gain_at k a b y = omega (arith, cap_is, gains k a b, carry_at k a b y, plain_at k a b y)
 
   -- the chosen tasks gain the most
   gain_same : (p : ℕ → Bool) → ((k : ℕ) → p k ≡ true → In q.above.now k) → total_of p (λ k. nth extras k 0) 32 ≡ total_of p (gain l) (length q.rows.now)
