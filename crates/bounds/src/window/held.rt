@@ -5,9 +5,8 @@ ghost use Rattle.bounds.specs.Climbs.{load_of, Held, Lists, NeverFalls, work_at}
 ghost use Rattle.bounds.specs.Posing.{own_row};
 
 use super::Window;
-use crate::estimates::wcets_of;
+use crate::load::work_in;
 use crate::picks::picks;
-use crate::posed::Posed;
 use std::array;
 
 // What each task adds to its plain load by carrying load in, both held to the cap.
@@ -33,23 +32,28 @@ fn mixed(carried: &[u32; 32], plain: &[u32; 32], chosen: &[bool; 32]) -> [u32; 3
 }
 
 impl Window<'_> {
-    // The work of the task at a place, with its estimate; 0 if it is not above.
-    fn work_of(&self, place: usize) -> u32
+    // The work of the task at a place, with its estimate if it carries load in; 0 if it is not above.
+    fn work_of(&self, place: usize, carries: bool) -> u32
         requires place { place < 32 }
-        ensures { result ≡ work_at self.now.posed self.now.length (place + 1) }
+        ensures { result ≡ work_at self.now.posed self.now.length carries (place + 1) }
     {
         let q = self.posed;
         if !q.above[place] {
             return 0;
         }
-        self.work_with(q.rows[place], q.estimates[place])
+        let row = q.rows[place];
+        if carries {
+            self.work_with(row, q.estimates[place])
+        } else {
+            work_in(row, self.length)
+        }
     }
 
-    // The work of each task above, with its estimate.
-    fn works(&self) -> [u32; 32]
-        ensures { Lists (work_at self.now.posed self.now.length) result }
+    // The work of each task above, with its estimate if they carry load in.
+    fn works(&self, carries: bool) -> [u32; 32]
+        ensures { Lists (work_at self.now.posed self.now.length carries) result }
     {
-        array::from_fn(|place| self.work_of(place))
+        array::from_fn(|place| self.work_of(place, carries))
     }
 
     // At most `limit` of the loads are carried and the others plain; without a limit all are carried.
@@ -57,24 +61,11 @@ impl Window<'_> {
         ensures held { Held (load_of limit self.now.posed) (own_row self.now.posed) self.now.length result }
         ensures rises { NeverFalls (load_of limit self.now.posed) self.now.length }
     {
-        let carried = self.works();
+        let carried = self.works(true);
         let Some(limit) = limit else {
             return carried;
         };
-        let q = self.posed;
-        let wcets = wcets_of(q.rows);
-        // Each field is written out: `..` cannot stand for those of a struct with an invariant.
-        let least = Posed {
-            rows: q.rows,
-            task: q.task,
-            above: q.above,
-            estimates: &wcets,
-        };
-        let plain = Window {
-            posed: least,
-            length: self.length,
-        }
-        .works();
+        let plain = self.works(false);
         let extras = extras_of(&carried, &plain, self.cap());
         let chosen = picks(&extras, limit);
         mixed(&carried, &plain, &chosen)
