@@ -1,21 +1,20 @@
 -- The loads that are held in a window stand for its load, and for no more than that of a longer one.
 use Rattle.std.proofs.Common.{◌≡◌, ℕ, zero, suc, ◌+◌, ◌-◌, ◌<◌, ◌≤◌, min, Bool, true, false, cond, List, length, get_or, sym, refl, ap, ◌∙◌, inl, inr, arith}
 use Rattle.std.proofs.lemmas.Bool.{cases_Bool, cases_eq, cond-true, cond-false}
+use Rattle.std.proofs.lemmas.List.{get_or_default}
 use Rattle.table.specs.declared.row.Row.{Row}
 use Rattle.table.specs.Places.{nth}
-use Rattle.table.specs.Rows.{row, Names}
+use Rattle.table.specs.Rows.{row, filler, Names}
 use Rattle.table.proofs.Placed.{nth_next}
 use Rattle.bounds.specs.declared.posed.Posed.{Posed}
-use Rattle.bounds.specs.Questions.{Sound, In}
+use Rattle.bounds.specs.Questions.{In}
 use Rattle.bounds.specs.Posing.{own_row}
 use Rattle.bounds.specs.Loads.{work, cap_of, carried, plain, sum_to, total_of, sum_over}
-use Rattle.bounds.specs.Orders.{wcets}
 use Rattle.bounds.specs.Responses.{Choice, Greatest, carried_loads, plain_load, extra, limited_load}
 use Rattle.bounds.specs.Climbs.{Lists, work_at, Picked, Held, NeverFalls}
 use Rattle.bounds.specs.Greatests.{greatest_is, greatest_one}
 use Rattle.bounds.specs.Sums.{sum_same, sum_mono, sum_add}
 use Rattle.bounds.specs.Works.{work_mono}
-use Rattle.bounds.proofs.Wcets.{wcets_at}
 
 -- a sum over more places, all 0, is the sum before
 sum_past : (f : ℕ → ℕ) (n m : ℕ) → n ≤ m → ((k : ℕ) → n < k → k ≤ m → f k ≡ 0) → sum_to f m ≡ sum_to f n
@@ -24,26 +23,43 @@ sum_past f n zero le none = let e : 0 ≡ n = omega arith in ap (sum_to f) e
 sum_past f n (suc m) le none = elim (cases_eq n (suc m)) [ inl e ↦ ap (sum_to f) (sym e) | inr d ↦ omega (arith, sum_past f n m (omega arith) (λ k low high. none k low (omega arith)), none (suc m) (omega arith) (omega arith)) ]
 
 module _ (q : Posed) where
-  -- what is above has a row
-  pub above_row : (place : ℕ) → place < 32 → get_or q.above.now place false ≡ true → place < length q.rows.now
-  above_row place h y = let named = q.sound.inside (place + 1) (omega arith) (nth_next q.above.now place false ∙ y) in omega arith
+  -- the works of a task above, carried and plain, before the cap
+  abbrev full : ℕ → ℕ → ℕ
+  full l k = work (row q.rows.now k) (l + nth q.estimates.now k 0 - (row q.rows.now k).wcet)
 
-  module _ (place : ℕ) (r : Row) (at : row q.rows.now (place + 1) ≡ r) (h : place < length q.rows.now) where
-    -- the estimate of the row that is read at a place
-    pub estimate_read : (r.wcet ≤ get_or q.estimates.now place 0) × (get_or q.estimates.now place 0 ≤ 1000000)
-    estimate_read =
-        let names : Names q.rows.now (place + 1) = (omega arith, omega arith) in
-        let x = nth_next q.estimates.now place 0 in
-        (omega (arith, q.sound.low (place + 1) names, ap (λ (j : Row). j.wcet) at), omega (arith, q.sound.high (place + 1) names, (row q.rows.now (place + 1)).ok))
+  abbrev bare : ℕ → ℕ → ℕ
+  bare l k = work (row q.rows.now k) l
 
-    pub work_above : (l : ℕ) → get_or q.above.now place false ≡ true → work r (l + get_or q.estimates.now place 0 - r.wcet) ≡ work_at q l (place + 1)
-    work_above l y =
-        ap (λ n. work r (l + n - r.wcet)) (sym (nth_next q.estimates.now place 0))
-        ∙ ap (λ (j : Row). work j (l + nth q.estimates.now (place + 1) 0 - j.wcet)) (sym at)
-        ∙ sym (cond-true (nth q.above.now (place + 1) false) _ 0 (nth_next q.above.now place false ∙ y))
+  -- what is read at a place that is above; d is what would be read past the last row
+  module _ (place : ℕ) (h : place < 32) (y : get_or q.above.now place false ≡ true) where
+    pub above_row : place < length q.rows.now
+    above_row = let named = q.sound.inside (place + 1) (omega arith) (nth_next q.above.now place false ∙ y) in omega arith
 
-  pub work_not_above : (l place : ℕ) → get_or q.above.now place false ≡ false → work_at q l (place + 1) ≡ 0
-  work_not_above l place z = cond-false (nth q.above.now (place + 1) false) _ 0 (nth_next q.above.now place false ∙ z)
+    module _ (d : Row) where
+      read : row q.rows.now (place + 1) ≡ get_or q.rows.now place d
+      read = nth_next q.rows.now place filler ∙ get_or_default q.rows.now place filler d above_row
+
+      pub estimate_read : ((get_or q.rows.now place d).wcet ≤ get_or q.estimates.now place 0) × (get_or q.estimates.now place 0 ≤ (get_or q.rows.now place d).deadline)
+      estimate_read =
+          let names : Names q.rows.now (place + 1) = (omega arith, omega (arith, above_row)) in
+          let x = nth_next q.estimates.now place 0 in
+          (omega (arith, q.sound.low (place + 1) names, ap (λ (j : Row). j.wcet) read), omega (arith, q.sound.high (place + 1) names, ap (λ (j : Row). j.deadline) read))
+
+      pub work_carried : (l : ℕ) (carries : Bool) → carries ≡ true → work (get_or q.rows.now place d) (l + get_or q.estimates.now place 0 - (get_or q.rows.now place d).wcet) ≡ work_at q l carries (place + 1)
+      work_carried l carries c =
+          ap (λ (j : Row). work j (l + get_or q.estimates.now place 0 - j.wcet)) (sym read)
+          ∙ ap (λ n. work (row q.rows.now (place + 1)) (l + n - (row q.rows.now (place + 1)).wcet)) (sym (nth_next q.estimates.now place 0))
+          ∙ sym (cond-true carries (full l (place + 1)) (bare l (place + 1)) c)
+          ∙ sym (cond-true (nth q.above.now (place + 1) false) _ 0 (nth_next q.above.now place false ∙ y))
+
+      pub work_plain : (l : ℕ) (carries : Bool) → carries ≡ false → work (get_or q.rows.now place d) l ≡ work_at q l carries (place + 1)
+      work_plain l carries c =
+          ap (λ (j : Row). work j l) (sym read)
+          ∙ sym (cond-false carries (full l (place + 1)) (bare l (place + 1)) c)
+          ∙ sym (cond-true (nth q.above.now (place + 1) false) _ 0 (nth_next q.above.now place false ∙ y))
+
+  pub work_not_above : (l : ℕ) (carries : Bool) (place : ℕ) → get_or q.above.now place false ≡ false → work_at q l carries (place + 1) ≡ 0
+  work_not_above l carries place z = cond-false (nth q.above.now (place + 1) false) _ 0 (nth_next q.above.now place false ∙ z)
 
   -- a sum over all places of the tasks above is that over the rows
   sum_rows : (f : ℕ → ℕ) → sum_over q.above.now f 32 ≡ sum_over q.above.now f (length q.rows.now)
@@ -52,25 +68,7 @@ module _ (q : Posed) where
     | inr z ↦ cond-false _ (f k) 0 z
   ])
 
-  -- the wcets are sound estimates too
-  pub wcets_sound : Sound q.rows.now q.task q.above.now (wcets q.rows.now)
-  wcets_sound = record {
-    few = q.sound.few;
-    names = q.sound.names;
-    inside = q.sound.inside;
-    apart = q.sound.apart;
-    low = λ k h. omega (arith, wcets_at q.rows.now k q.sound.few h);
-    high = λ k h. omega (arith, wcets_at q.rows.now k q.sound.few h, (row q.rows.now k).ok);
-  }
-
-  -- the works of a task above, carried and plain, before the cap
-  abbrev full : ℕ → ℕ → ℕ
-  full l k = work (row q.rows.now k) (l + nth q.estimates.now k 0 - (row q.rows.now k).wcet)
-
-  abbrev bare : ℕ → ℕ → ℕ
-  bare l k = work (row q.rows.now k) l
-
-  module _ (l : ℕ) (held : List ℕ) (lists : Lists (work_at q l) held) where
+  module _ (l : ℕ) (held : List ℕ) (lists : Lists (work_at q l true) held) where
     pub held_all : Held (carried_loads q.rows.now q.task q.above.now q.estimates.now) (own_row q) l held
     held_all =
         let carry : ℕ → ℕ → ℕ = λ l' k. carried (own_row q) l' (row q.rows.now k) (nth q.estimates.now k 0) in
@@ -90,11 +88,12 @@ module _ (q : Posed) where
         }
 
 -- At most c tasks carry load in: the chosen ones.
-module _ (q : Posed) (c l : ℕ) (low : (own_row q).wcet ≤ l)
-    (with' without extras : List ℕ) (chosen : List Bool) (held costs : List ℕ) (cost : costs ≡ wcets q.rows.now)
-    (carries : Lists (work_at q l) with')
-    (plains : Lists (λ k. cond (nth q.above.now k false) (work (row q.rows.now k) (l + nth costs k 0 - (row q.rows.now k).wcet)) 0) without)
-    (gains : Lists (λ k. min (nth with' k 0) (cap_of (own_row q) l) - min (nth without k 0) (cap_of (own_row q) l)) extras)
+module _ (q : Posed) (c l : ℕ)
+    (with' without extras : List ℕ) (chosen : List Bool) (held : List ℕ)
+    (carries : Lists (work_at q l true) with')
+    (plains : Lists (work_at q l false) without)
+    (cap : ℕ) (cap_is : cap ≡ cap_of (own_row q) l)
+    (gains : Lists (λ k. min (nth with' k 0) cap - min (nth without k 0) cap) extras)
     (picked : Picked extras c chosen)
     (mixes : Lists (λ k. cond (nth chosen k false) (nth with' k 0) (nth without k 0)) held) where
   abbrev is_chosen : ℕ → Bool
@@ -113,16 +112,14 @@ module _ (q : Posed) (c l : ℕ) (low : (own_row q).wcet ≤ l)
   carry_at k a b y = carries k a b ∙ cond-true (above k) (full q l k) 0 y
 
   plain_at : (k : ℕ) → 1 ≤ k → k ≤ 32 → In q.above.now k → nth without k 0 ≡ bare q l k
-  plain_at k a b y =
-      plains k a b ∙ cond-true (above k) (work (row q.rows.now k) (l + nth costs k 0 - (row q.rows.now k).wcet)) 0 y
-      ∙ ap (work (row q.rows.now k)) (let is = wcets_at q.rows.now k q.sound.few (q.sound.inside k b y) in omega (arith, ap (λ w. nth w k 0) cost))
+  plain_at k a b y = plains k a b ∙ cond-true (above k) (bare q l k) 0 y
 
   -- a task that is not above has no load
   carry_out : (k : ℕ) → 1 ≤ k → k ≤ 32 → above k ≡ false → nth with' k 0 ≡ 0
   carry_out k a b z = carries k a b ∙ cond-false (above k) (full q l k) 0 z
 
   plain_out : (k : ℕ) → 1 ≤ k → k ≤ 32 → above k ≡ false → nth without k 0 ≡ 0
-  plain_out k a b z = plains k a b ∙ cond-false (above k) (work (row q.rows.now k) (l + nth costs k 0 - (row q.rows.now k).wcet)) 0 z
+  plain_out k a b z = plains k a b ∙ cond-false (above k) (bare q l k) 0 z
 
   -- to carry load in is never less
   more_carried : (l' k : ℕ) → k ≤ 32 → In q.above.now k → bare q l' k ≤ full q l' k
@@ -144,7 +141,7 @@ module _ (q : Posed) (c l : ℕ) (low : (own_row q).wcet ≤ l)
   choice = record { inside = λ k y. (chosen_above k y).2; few = omega (arith, picked.few, total_rows is_chosen (λ k y. (chosen_above k y).2) (λ _. 1)) }
 
   gain_at : (k : ℕ) → 1 ≤ k → k ≤ 32 → In q.above.now k → nth extras k 0 ≡ gain l k
-  gain_at k a b y = omega (arith, gains k a b, carry_at k a b y, plain_at k a b y)
+  gain_at k a b y = omega (arith, cap_is, gains k a b, carry_at k a b y, plain_at k a b y)
 
   -- the chosen tasks gain the most
   gain_same : (p : ℕ → Bool) → ((k : ℕ) → p k ≡ true → In q.above.now k) → total_of p (λ k. nth extras k 0) 32 ≡ total_of p (gain l) (length q.rows.now)

@@ -26,9 +26,9 @@ climbs m limit rows i above estimates = cond (soundb rows i above estimates) (le
 abbrev pub Lists : (ℕ → ℕ) → List ℕ → Type 0
 Lists f xs = (k : ℕ) → 1 ≤ k → k ≤ 32 → nth xs k 0 ≡ f k
 
--- the work of task k in a window with its estimate, before the cap; 0 if it is not above
-abbrev pub work_at : Posed → ℕ → ℕ → ℕ
-work_at q l k = cond (nth q.above.now k false) (work (row q.rows.now k) (l + nth q.estimates.now k 0 - (row q.rows.now k).wcet)) 0
+-- the work of task k in a window, before the cap, with its estimate if it carries load in; 0 if it is not above
+abbrev pub work_at : Posed → ℕ → Bool → ℕ → ℕ
+work_at q l carries k = cond (nth q.above.now k false) (cond carries (work (row q.rows.now k) (l + nth q.estimates.now k 0 - (row q.rows.now k).wcet)) (work (row q.rows.now k) l)) 0
 
 -- the loads of a list in all, each held to a cap
 abbrev pub held_to : List ℕ → ℕ → ℕ → ℕ

@@ -1,6 +1,6 @@
 // The work of one task in a window, and a bound that is held to a deadline.
 ghost use Rattle.std.specs.Prelude.{◌≡◌, ◌≤◌};
-ghost use Rattle.bounds.specs.Loads.{work, carried};
+ghost use Rattle.bounds.specs.Loads.{work};
 ghost use Rattle.bounds.specs.Questions.{capped};
 
 use table::row::Row;
@@ -13,15 +13,6 @@ pub(crate) fn work_in(row: Row, q: u32) -> u32
     let wcet = row.wcet();
     let period = row.period();
     q / period * wcet + wcet.min(q % period)
-}
-
-// The load that a task with an estimate carries into a window of the task `own`.
-pub(crate) fn carried_load(own: Row, window: u32, row: Row, estimate: u32) -> u32
-    requires { (own.wcet ≤ window) × ((window ≤ 1000000) × ((row.wcet ≤ estimate) × (estimate ≤ row.deadline))) }
-    ensures { result ≡ carried own window row estimate }
-{
-    let cap = window - own.wcet() + 1;
-    work_in(row, window + estimate - row.wcet()).min(cap)
 }
 
 // The bound, or none past the deadline.

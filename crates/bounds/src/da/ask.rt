@@ -5,11 +5,12 @@ ghost use Rattle.bounds.specs.Made.{MadeDa};
 ghost use Rattle.bounds.specs.DaLaws.{da_laws};
 
 use super::Da;
-use crate::load::{carried_load, within};
+use crate::load::within;
 use crate::posed::Posed;
 use crate::processors::Processors;
 use crate::question::Question;
 use crate::test::Test;
+use crate::window::Window;
 use table::fault::Fault;
 
 impl Da {
@@ -27,11 +28,14 @@ impl Da {
 fn load_above(q: &Posed<'_>) -> u32
     ensures { result ≡ deadline_load q.now.rows.now q.now.task q.now.above.now }
 {
-    let own = q.own();
+    let window = Window {
+        posed: *q,
+        length: q.own().deadline(),
+    };
     let mut sum = 0;
     for (row, above) in q.rows.iter().zip(q.above) {
         if *above {
-            let load = carried_load(own, own.deadline(), *row, row.deadline());
+            let load = window.carried_load(*row, row.deadline());
             sum += load;
         }
     }

@@ -1,0 +1,18 @@
+use Rattle.std.proofs.Common.{sym, ◌∙◌, rules}
+use Rattle.bounds.proofs.Helds.{above_row, estimate_read, work_carried, work_plain, work_not_above}
+use Rattle.bounds.proofs.window.Window.work_of.Goals as goal
+
+pub returns-then-not-q-place : goal.returns-then-not-q-place
+returns-then-not-q-place c = sym (work_not_above c.args.self.now.posed c.args.self.now.length c.args.carries c.args.place (search rules))
+
+pub bounds-q-place-2 : goal.bounds-q-place-2
+bounds-q-place-2 c = above_row c.args.self.now.posed c.args.place c.requires.place (search rules)
+
+pub work_with-requires : goal.work_with-requires
+work_with-requires c = estimate_read c.args.self.now.posed c.args.place c.requires.place (search rules) _
+
+pub returns-then-carries : goal.returns-then-carries
+returns-then-carries c = c.work_with.ensures ∙ work_carried c.args.self.now.posed c.args.place c.requires.place (search rules) _ c.args.self.now.length c.args.carries c.if-carries.true
+
+pub returns-else-carries : goal.returns-else-carries
+returns-else-carries c = c.work_in.ensures ∙ work_plain c.args.self.now.posed c.args.place c.requires.place (search rules) _ c.args.self.now.length c.args.carries c.if-carries.false
