@@ -72,7 +72,7 @@ NoneDo held m y z = (x : ℕ) → y ≤ x → x < z → m * x ≤ held_to held 3
 
 -- a tally of 32 loads at a cap of at most 1,000,000
 abbrev pub Limited : Tally → Type 0
-Limited t = (t.sum ≤ 32000000) × (t.over ≤ 32) × (t.least ≤ 2000000) × (t.rest ≤ 32000000)
+Limited t = (t.sum ≤ 32000000) × (t.least ≤ 2000000) × (t.rest ≤ 32000000)
 
 -- a cap below which none can do, by the loads above the cap and the rest
 abbrev pub jump : Tally → ℕ → ℕ
