@@ -1,7 +1,8 @@
 -- The deadline analysis keeps the laws.
-use Rattle.std.specs.Prelude.{◌≡◌, ℕ, ◌+◌, ◌/◌, Bool, List, Some, None}
+use Rattle.std.specs.Prelude.{◌≡◌, ℕ, ◌+◌, ◌/◌, Bool, List, None}
 use Rattle.std.proofs.Common.{sym, ap, ◌∙◌, inl, inr, arith}
 use Rattle.std.proofs.lemmas.Bool.{cases_Bool, cond-true, cond-false}
+use Rattle.std.proofs.lemmas.Option.{none-some}
 use Rattle.table.specs.declared.row.Row.{Row}
 use Rattle.table.specs.Rows.{row}
 use Rattle.bounds.specs.declared.da.Da.{Da}
@@ -35,7 +36,7 @@ da_laws = record {
         | inl y ↦
             let fact = capped_some (row rows i).deadline (bound m rows i s) b (sym (cond-true (soundb rows i s e) _ None y) ∙ is) in
             (sound_from rows i s e y, omega (arith, fact), omega (arith, fact))
-        | inr z ↦ let no : None ≡ Some b = sym (cond-false (soundb rows i s e) (capped (row rows i).deadline (bound m rows i s)) None z) ∙ is in absurd (let o : ◌≡◌ {A = ℕ} 0 1 = cc in omega arith)
+        | inr z ↦ absurd (none-some b (sym (cond-false (soundb rows i s e) (capped (row rows i).deadline (bound m rows i s)) None z) ∙ is))
       ];
   reads = λ t rows i s e f h k same. da_sound t.processors.count rows i s e h ∙ sym (da_sound t.processors.count rows i s f k);
   more = λ t rows i s u e h k sub.
