@@ -8,7 +8,7 @@ use Rattle.table.specs.Places.{nth}
 use Rattle.table.specs.Rows.{row, Names}
 use Rattle.bounds.specs.Questions.{Sound, NoMore, Laws, In, soundb}
 use Rattle.bounds.specs.Responses.{least_from, least_fit, Least}
-use Rattle.bounds.specs.Compared.{no_more_both}
+use Rattle.bounds.specs.Compared.{given_when, no_more_both}
 use Rattle.bounds.specs.Sounds.{sound_from, sound_test}
 use Rattle.bounds.specs.Works.{div_mono}
 
@@ -117,10 +117,9 @@ module _ {T : Type 0} (m : T → ℕ) (pos : (t : T) → 0 < m t) (load : T → 
   pub fit_laws : Laws (λ t rows i s e. cond (soundb rows i s e) (fit t rows i s e) None)
   fit_laws = record {
     bound = λ t rows i s e b is.
-        elim (cases_Bool (soundb rows i s e)) [
-          | inl y ↦ let lies = fit_bound (m t) (pos t) (row rows i) _ b (sym (cond-true (soundb rows i s e) _ None y) ∙ is) in (sound_from rows i s e y, lies.0, lies.1)
-          | inr z ↦ absurd (none-some b (sym (cond-false (soundb rows i s e) (fit t rows i s e) None z) ∙ is))
-        ];
+        let given = given_when (soundb rows i s e) (fit t rows i s e) b is in
+        let lies = fit_bound (m t) (pos t) (row rows i) _ b given.1 in
+        (sound_from rows i s e given.0, lies.0, lies.1);
     reads = λ t rows i s e f h k same.
         no_more_both _ _
         (grows t rows i s s e f h k (λ _ y. y) (λ j _ y. omega (arith, same j y)))
