@@ -60,9 +60,6 @@ module _ {T : Type 0} (answer : T → List Row → ℕ → List Bool → List �
     pub reached_late : p < length rows → answer t rows task above estimates ≡ None → Found answer t rows order (Some task) bounds
     reached_late l late = (p, (omega (arith, o.size), r.bounded, sym answered ∙ late), refl, r.rest)
 
-    pub reached_all : p ≡ length order → Found answer t rows order None bounds
-    reached_all end = subst (Bounded answer t rows order bounds) end r.bounded
-
     pub reached_more : (b : ℕ) → p < length rows → answer t rows task above estimates ≡ Some b → Reached (set above (task - 1) true) (set estimates (task - 1) b) (set bounds (task - 1) b) (p + 1)
     reached_more b l is =
         let row = o.rows p l in

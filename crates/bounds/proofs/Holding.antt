@@ -1,6 +1,7 @@
 -- An order's bounds are settled by the order, so no late task is found exactly when it holds.
 use Rattle.std.proofs.Common.{◌≡◌, ℕ, zero, suc, ◌<◌, ◌≤◌, Bool, List, length, Some, None, Option, sym, refl, ap, ◌∙◌, subst, inl, inr, arith}
 use Rattle.std.proofs.lemmas.Bool.{cases_eq}
+use Rattle.std.proofs.lemmas.Option.{none-some, same_Some}
 use Rattle.table.specs.declared.row.Row.{Row}
 use Rattle.table.specs.Places.{nth}
 use Rattle.bounds.specs.declared.miss.Miss.{Miss}
@@ -8,9 +9,6 @@ use Rattle.bounds.specs.Questions.{NoMore}
 use Rattle.bounds.specs.Orders.{task_at, Order, first, padded, answer_at, answer_with, Bounded, LateAt, Found, Holds, NoneWhen, MeetsAt, FirstMiss, PassesBy}
 use Rattle.bounds.proofs.Descents.{estimated_same}
 use Rattle.bounds.proofs.Padded.{padded_at}
-
-pub none_some : {X : Type 0} (v : X) → None ≡ Some v → ⊥
-none_some v e = let o : ◌≡◌ {A = ℕ} 0 1 = cc in omega arith
 
 module _ {T : Type 0} (answer : T → List Row → ℕ → List Bool → List ℕ → Option ℕ) (t : T) (rows : List Row) (order : List ℕ) where
   -- the answer below p tasks is settled by their bounds
@@ -22,7 +20,7 @@ module _ {T : Type 0} (answer : T → List Row → ℕ → List Bool → List �
   same_bounds a b (suc p) ha hb q l =
       let before = same_bounds a b p (λ i m. ha i (omega arith)) (λ i m. hb i (omega arith)) in
       elim (cases_eq q p) [
-        | inl e ↦ (let is : Some (nth a (task_at order p) 0) ≡ Some (nth b (task_at order p) 0) = sym (ha p (omega arith)) ∙ same_answer a b p before ∙ hb p (omega arith) in let same : nth a (task_at order p) 0 ≡ nth b (task_at order p) 0 = cc in ap (λ i. nth a (task_at order i) 0) e ∙ same ∙ ap (λ i. nth b (task_at order i) 0) (sym e))
+        | inl e ↦ (let same = same_Some _ _ (sym (ha p (omega arith)) ∙ same_answer a b p before ∙ hb p (omega arith)) in ap (λ i. nth a (task_at order i) 0) e ∙ same ∙ ap (λ i. nth b (task_at order i) 0) (sym e))
         | inr d ↦ before q (omega arith)
       ]
 
@@ -30,11 +28,11 @@ module _ {T : Type 0} (answer : T → List Row → ℕ → List Bool → List �
   pub holds_not_late : (a b : List ℕ) (p : ℕ) → Bounded answer t rows order a (length order) → LateAt answer t rows order b p → ⊥
   holds_not_late a b p ha late =
       let before : Bounded answer t rows order a p = λ q l. ha q (omega (arith, l, late.0)) in
-      none_some _ (sym late.2 ∙ sym (same_answer a b p (same_bounds a b p before late.1)) ∙ ha p late.0)
+      none-some _ (sym late.2 ∙ sym (same_answer a b p (same_bounds a b p before late.1)) ∙ ha p late.0)
 
   pub late_when : (late : Option ℕ) (bounds : List ℕ) → Found answer t rows order late bounds → NoneWhen late (Holds answer t rows order)
   late_when None bounds found = ((λ _. (bounds, found)), λ _. refl)
-  late_when (Some k) bounds found = ((λ e. absurd (none_some k (sym e))), λ holds. absurd (holds_not_late holds.0 bounds found.0 holds.1 found.1))
+  late_when (Some k) bounds found = ((λ e. absurd (none-some k (sym e))), λ holds. absurd (holds_not_late holds.0 bounds found.0 holds.1 found.1))
 
   module _ (es : List ℕ) (long : length es ≡ length rows) (few : length rows ≤ 32) (o : Order (length rows) order) where
     -- a row's estimate, filled up or not
@@ -48,4 +46,4 @@ module _ {T : Type 0} (answer : T → List Row → ℕ → List Bool → List �
 
     pub miss_when : (miss : Option Miss) → FirstMiss answer t rows order es miss → NoneWhen miss (PassesBy answer t rows (padded es) (padded es) order)
     miss_when None meets = ((λ _ p l. subst (λ X. X) (sym (meets_is p l)) (meets p l)), λ _. refl)
-    miss_when (Some x) found = ((λ e. absurd (none_some x (sym e))), λ passes. absurd (found.4 (subst (λ X. X) (meets_is found.0 found.1) (passes found.0 found.1))))
+    miss_when (Some x) found = ((λ e. absurd (none-some x (sym e))), λ passes. absurd (found.4 (subst (λ X. X) (meets_is found.0 found.1) (passes found.0 found.1))))

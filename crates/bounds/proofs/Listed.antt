@@ -12,7 +12,7 @@ pub record Listed (n : ℕ) (order : List ℕ) (seen : List Bool) (p : ℕ) : Ty
   pub marked : (q : ℕ) → q < p → get_or seen (task_at order q - 1) false ≡ true
   pub came : (j : ℕ) → get_or seen j false ≡ true → (q : ℕ) × (q < p) × (task_at order q ≡ j + 1)
 
-none_seen : (j : ℕ) → get_or (replicate 32 false) j false ≡ false
+pub none_seen : (j : ℕ) → get_or (replicate 32 false) j false ≡ false
 none_seen j = elim (cases_lt j 32) [ inl l ↦ get_or-replicate 32 j false false l | inr m ↦ get_or_past (replicate 32 false) j false (omega (arith, length-replicate 32 false)) ]
 
 pub listed_none : (n : ℕ) (order : List ℕ) → Listed n order (replicate 32 false) 0
@@ -61,10 +61,3 @@ module _ (n : ℕ) (order : List ℕ) (seen : List Bool) (p : ℕ) (few : n ≤ 
           | inr d ↦ let was = listed.came j (sym (get_or-set_other seen (task - 1) j true false d) ∙ y) in (was.0, omega (arith, was.1), was.2)
         ];
       }
-
-  pub listed_all : length order ≡ n → p ≡ n → Order n order
-  listed_all size end = record {
-    size = size;
-    rows = λ q l. listed.rows q (omega arith);
-    apart = λ q r l m. listed.apart q r (omega arith) (omega arith);
-  }

@@ -1,5 +1,5 @@
 -- Going down an order to the first task that misses its estimate.
-use Rattle.std.proofs.Common.{◌≡◌, ℕ, ◌+◌, ◌-◌, ◌<◌, Bool, true, false, List, length, get_or, set, replicate, Some, None, Option, sym, refl, ap, ◌∙◌, subst, inl, inr, arith}
+use Rattle.std.proofs.Common.{◌≡◌, ℕ, ◌+◌, ◌-◌, ◌<◌, Bool, true, false, List, length, get_or, set, replicate, Some, Option, sym, refl, ap, ◌∙◌, subst, inl, inr, arith}
 use Rattle.std.proofs.lemmas.Bool.{cases_eq}
 use Rattle.table.specs.declared.row.Row.{Row}
 use Rattle.table.proofs.Placed.{put_at, nth_at}
@@ -15,9 +15,6 @@ module _ {T : Type 0} (answer : T → List Row → ℕ → List Bool → List �
 
   pub met_none : Met (replicate 32 false) 0
   met_none = record { above_is = sym (first_none order); meet = λ q l. absurd (omega arith) }
-
-  pub met_all : (above : List Bool) (p : ℕ) → Met above p → p ≡ length order → FirstMiss answer t rows order es None
-  met_all above p m end q l = m.meet q (omega arith)
 
   module _ (above : List Bool) (p : ℕ) (met : Met above p) (o : Order (length rows) order) (l : p < length rows) (bound : Option ℕ) (asked : bound ≡ answer t rows (task_at order p) above (padded es)) where
     abbrev task : ℕ

@@ -9,9 +9,7 @@ use Rattle.bounds.specs.Climbs.{Picked, GreatestLeft}
 use Rattle.bounds.specs.Greatests.{edge_best}
 use Rattle.bounds.specs.Sounds.{in_low}
 use Rattle.bounds.specs.Sums.{sum_same, sum_part}
-
-none_seen : (j : ℕ) → get_or (replicate 32 false) j false ≡ false
-none_seen j = sym (nth_next (replicate 32 false) j false) ∙ nth_replicate 32 false (j + 1)
+use Rattle.bounds.proofs.Listed.{none_seen}
 
 pub count_none : (n : ℕ) → sum_over (replicate 32 false) (λ _. 1) n ≡ 0
 unfolding sum_to

@@ -1,6 +1,6 @@
 -- Estimates that lie from their row's C to its D.
 use Rattle.std.proofs.Common.{◌≡◌, ℕ, ◌+◌, ◌-◌, ◌<◌, Bool, true, ◌&&◌, leb, List, length, get_or, sym, ap, ◌∙◌, inl, inr, arith}
-use Rattle.std.proofs.lemmas.Bool.{cases_Bool, and_parts, and_from, leb-true, le-leb, both_ways}
+use Rattle.std.proofs.lemmas.Bool.{cases_Bool, le-leb, both_ways}
 use Rattle.std.proofs.lemmas.List.{get_or_default}
 use Rattle.std.proofs.lemmas.List.Elements.{All-from_all_within}
 use Rattle.std.proofs.lemmas.List.Folds.{list_all_at}
@@ -11,6 +11,7 @@ use Rattle.table.specs.declared.row.Row.{Row}
 use Rattle.table.specs.Places.{nth}
 use Rattle.table.specs.Rows.{row, filler, spans}
 use Rattle.table.proofs.Placed.{nth_next}
+use Rattle.table.proofs.Spanned.{spans_from, spans_test}
 use Rattle.bounds.specs.Orders.{Estimates}
 
 -- from a number to itself
@@ -40,9 +41,7 @@ module _ (rows : List Row) (es : List ℕ) (size : length es ≡ length rows) wh
         let d : Row × ℕ = (filler, 0) in
         let is = lies_at (k - 1) d (omega arith) in
         elim (cases_Bool (lies (get_or (zip rows es) (k - 1) d))) [
-          | inl y ↦
-              let both = and_parts (leb (row rows k).wcet (nth es k 0)) _ (sym (spans_one (row rows k) (nth es k 0)) ∙ ap (λ j. spans (row rows j) (nth es j 0) (nth es j 0)) (omega arith) ∙ ap lies (sym is) ∙ y) in
-              (leb-true _ _ both.0, leb-true _ _ both.1)
+          | inl y ↦ let all = spans_from (row rows k) _ _ (ap (λ j. spans (row rows j) (nth es j 0) (nth es j 0)) (omega arith) ∙ ap lies (sym is) ∙ y) in (all.0, all.2)
           | inr n ↦ absurd (both_ways (list_all lies (zip rows es)) (list_all_at lies (zip rows es) (k - 1) d (omega (arith, long)) n) h)
         ];
   }
@@ -50,6 +49,4 @@ module _ (rows : List Row) (es : List ℕ) (size : length es ≡ length rows) wh
   pub all_lie : Estimates rows es → list_all lies (zip rows es) ≡ true
   all_lie h = list_all-from_AllPass lies (zip rows es) (All-from_all_within (λ p. lies p ≡ true) (zip rows es) (λ j d low high.
       let within = h.within (j + 1) (omega arith, omega (arith, long)) in
-      ap lies (lies_at j d (omega (arith, long)))
-      ∙ spans_one (row rows (j + 1)) (nth es (j + 1) 0)
-      ∙ and_from _ _ (le-leb _ _ within.0) (le-leb _ _ within.1)))
+      ap lies (lies_at j d (omega (arith, long))) ∙ spans_test (row rows (j + 1)) _ _ (within.0, omega arith, within.1)))

@@ -1,8 +1,14 @@
 -- How answers compare: late is greater than every number.
-use Rattle.std.specs.Prelude.{◌≡◌, ℕ, ◌≤◌, Some, None, Option, nat_le, refl}
-use Rattle.std.proofs.Common.{ap, subst, sym, ◌∙◌, inl, inr, arith}
+use Rattle.std.specs.Prelude.{◌≡◌, ℕ, ◌≤◌, Bool, true, false, cond, Some, None, Option, nat_le, refl}
+use Rattle.std.proofs.Common.{ap, subst, inl, inr, arith}
 use Rattle.std.proofs.lemmas.Bool.{cases_Bool, cond-true, cond-false, leb-true, le-leb}
+use Rattle.std.proofs.lemmas.Option.{none-some, cond_some}
 use Rattle.bounds.specs.Questions.{NoMore, capped}
+
+-- what is given only where a test holds
+pub given_when : {A : Type 0} (test : Bool) (a : Option A) (x : A) → cond test a None ≡ Some x → (test ≡ true) × (a ≡ Some x)
+given_when true a x is = (refl, is)
+given_when false a x is = absurd (none-some x is)
 
 pub no_more_self : (a : Option ℕ) → NoMore a a
 no_more_self None = tt
@@ -39,8 +45,4 @@ capped_mono d a b h =
     ]
 
 pub capped_some : (d a b : ℕ) → capped d a ≡ Some b → (a ≡ b) × (b ≤ d)
-capped_some d a b is =
-    elim (cases_Bool (nat_le a d)) [
-      | inl y ↦ let same : a ≡ b = (let s : Some a ≡ Some b = sym (cond-true (nat_le a d) (Some a) None y) ∙ is in cc) in (same, omega (arith, leb-true a d y, same))
-      | inr z ↦ absurd (let s : None ≡ Some b = sym (cond-false (nat_le a d) (Some a) None z) ∙ is in let o : ◌≡◌ {A = ℕ} 0 1 = cc in omega arith)
-    ]
+capped_some d a b is = let fits = cond_some (nat_le a d) a b is in (fits.1, omega (arith, leb-true a d fits.0, fits.1))

@@ -1,13 +1,13 @@
 -- The deadline analysis keeps the laws.
-use Rattle.std.specs.Prelude.{◌≡◌, ℕ, ◌+◌, ◌/◌, Bool, List, Some, None}
-use Rattle.std.proofs.Common.{sym, ap, ◌∙◌, inl, inr, arith}
-use Rattle.std.proofs.lemmas.Bool.{cases_Bool, cond-true, cond-false}
+use Rattle.std.specs.Prelude.{◌≡◌, ℕ, ◌+◌, ◌/◌, Bool, List, None}
+use Rattle.std.proofs.Common.{sym, ap, ◌∙◌, arith}
+use Rattle.std.proofs.lemmas.Bool.{cond-true}
 use Rattle.table.specs.declared.row.Row.{Row}
 use Rattle.table.specs.Rows.{row}
 use Rattle.bounds.specs.declared.da.Da.{Da}
 use Rattle.bounds.specs.Questions.{Sound, Laws, capped, soundb}
 use Rattle.bounds.specs.Loads.{da, deadline_load}
-use Rattle.bounds.specs.Compared.{no_more_same, capped_mono, capped_some}
+use Rattle.bounds.specs.Compared.{given_when, no_more_same, capped_mono, capped_some}
 use Rattle.bounds.specs.Sounds.{sound_from, sound_test}
 use Rattle.bounds.specs.Works.{div_mono, deadline_load_mono}
 
@@ -30,13 +30,9 @@ da_read m rows i s e own c d x n sound io ce de xe ne =
 pub da_laws : Laws {T = Da} (λ d. da d.processors.count)
 da_laws = record {
   bound = λ t rows i s e b is.
-      let m = t.processors.count in
-      elim (cases_Bool (soundb rows i s e)) [
-        | inl y ↦
-            let fact = capped_some (row rows i).deadline (bound m rows i s) b (sym (cond-true (soundb rows i s e) _ None y) ∙ is) in
-            (sound_from rows i s e y, omega (arith, fact), omega (arith, fact))
-        | inr z ↦ let no : None ≡ Some b = sym (cond-false (soundb rows i s e) (capped (row rows i).deadline (bound m rows i s)) None z) ∙ is in absurd (let o : ◌≡◌ {A = ℕ} 0 1 = cc in omega arith)
-      ];
+      let given = given_when (soundb rows i s e) _ b is in
+      let fact = capped_some (row rows i).deadline (bound t.processors.count rows i s) b given.1 in
+      (sound_from rows i s e given.0, omega (arith, fact), omega (arith, fact));
   reads = λ t rows i s e f h k same. da_sound t.processors.count rows i s e h ∙ sym (da_sound t.processors.count rows i s f k);
   more = λ t rows i s u e h k sub.
       let m = t.processors.count in

@@ -2,12 +2,13 @@
 use Rattle.std.specs.Prelude.{◌≡◌, ℕ, zero, suc, ◌+◌, ◌-◌, ◌/◌, ◌<◌, ◌≤◌, Bool, true, false, cond, List, Some, None, Option, MatchOption, ◌≢◌, refl}
 use Rattle.std.proofs.Common.{sym, ap, ◌∙◌, subst, inl, inr, arith}
 use Rattle.std.proofs.lemmas.Bool.{cases_Bool, cases_eq, cond-true, cond-false, leb-true, le-leb, both_ways}
+use Rattle.std.proofs.lemmas.Option.{none-some, same_Some}
 use Rattle.table.specs.declared.row.Row.{Row}
 use Rattle.table.specs.Places.{nth}
 use Rattle.table.specs.Rows.{row, Names}
 use Rattle.bounds.specs.Questions.{Sound, NoMore, Laws, In, soundb}
 use Rattle.bounds.specs.Responses.{least_from, least_fit, Least}
-use Rattle.bounds.specs.Compared.{no_more_both}
+use Rattle.bounds.specs.Compared.{given_when, no_more_both}
 use Rattle.bounds.specs.Sounds.{sound_from, sound_test}
 use Rattle.bounds.specs.Works.{div_mono}
 
@@ -28,12 +29,11 @@ least_missing p k (suc n) no' = cond-false (p k) (Some k) (least_from p (k + 1) 
 -- what was found is in the range, and the test holds of it
 pub least_is : (p : ℕ → Bool) (k n b : ℕ) → least_from p k n ≡ Some b → (k ≤ b) × (b < k + n) × (p b ≡ true)
 unfolding least_from
-least_is p k zero b is = absurd (let o : ◌≡◌ {A = ℕ} 0 1 = cc in omega arith)
+least_is p k zero b is = absurd (none-some b is)
 least_is p k (suc n) b is =
     elim (cases_Bool (p k)) [
       | inl y ↦
-          let got : Some k ≡ Some b = sym (cond-true (p k) (Some k) (least_from p (k + 1) n) y) ∙ is in
-          let e : k ≡ b = cc in
+          let e = same_Some k b (sym (cond-true (p k) (Some k) (least_from p (k + 1) n) y) ∙ is) in
           (omega arith, omega arith, ap p (sym e) ∙ y)
       | inr z ↦
           let rest = least_is p (k + 1) n b (sym (cond-false (p k) (Some k) (least_from p (k + 1) n) z) ∙ is) in
@@ -75,7 +75,7 @@ first_step p k n (Some b) z h = λ l low high y. elim (cases_eq l k) [ inl e ↦
 first_is : (p : ℕ → Bool) (k n : ℕ) (r : Option ℕ) → least_from p k n ≡ r → MatchOption r ((l : ℕ) → k ≤ l → l < k + n → p l ≢ true) (λ b. (l : ℕ) → k ≤ l → l < b → p l ≢ true)
 unfolding least_from
 first_is p k zero None is = λ l low high y. omega arith
-first_is p k zero (Some b) is = λ l low high y. let o : ◌≡◌ {A = ℕ} 0 1 = cc in omega arith
+first_is p k zero (Some b) is = absurd (none-some b is)
 first_is p k (suc n) r is =
     elim (cases_Bool (p k)) [
       | inl y ↦ subst (λ x. MatchOption x ((l : ℕ) → k ≤ l → l < k + suc n → p l ≢ true) (λ b. (l : ℕ) → k ≤ l → l < b → p l ≢ true)) (sym (cond-true (p k) (Some k) (least_from p (k + 1) n) y) ∙ is) (λ l low high _. omega arith)
@@ -117,10 +117,9 @@ module _ {T : Type 0} (m : T → ℕ) (pos : (t : T) → 0 < m t) (load : T → 
   pub fit_laws : Laws (λ t rows i s e. cond (soundb rows i s e) (fit t rows i s e) None)
   fit_laws = record {
     bound = λ t rows i s e b is.
-        elim (cases_Bool (soundb rows i s e)) [
-          | inl y ↦ let lies = fit_bound (m t) (pos t) (row rows i) _ b (sym (cond-true (soundb rows i s e) _ None y) ∙ is) in (sound_from rows i s e y, lies.0, lies.1)
-          | inr z ↦ let no' : None ≡ Some b = sym (cond-false (soundb rows i s e) (fit t rows i s e) None z) ∙ is in absurd (let o : ◌≡◌ {A = ℕ} 0 1 = cc in omega arith)
-        ];
+        let given = given_when (soundb rows i s e) (fit t rows i s e) b is in
+        let lies = fit_bound (m t) (pos t) (row rows i) _ b given.1 in
+        (sound_from rows i s e given.0, lies.0, lies.1);
     reads = λ t rows i s e f h k same.
         no_more_both _ _
         (grows t rows i s s e f h k (λ _ y. y) (λ j _ y. omega (arith, same j y)))

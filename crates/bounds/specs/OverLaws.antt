@@ -1,6 +1,7 @@
 -- An overhead keeps the laws, from the laws below.
 use Rattle.std.specs.Prelude.{◌≡◌, ℕ, ◌+◌, ◌≤◌, Bool, List, Some, None, Option, refl}
 use Rattle.std.proofs.Common.{ap, arith}
+use Rattle.std.proofs.lemmas.Option.{none-some}
 use Rattle.table.specs.declared.row.Row.{Row}
 use Rattle.table.specs.Rows.{row}
 use Rattle.bounds.specs.declared.overhead.Overhead.{Overhead}
@@ -15,7 +16,7 @@ over_mono x rows i (Some a) None h = no_more_late (capped (row rows i).deadline 
 over_mono x rows i (Some a) (Some b) h = capped_mono (row rows i).deadline (a + x) (b + x) (omega arith)
 
 over_some : (x : ℕ) (rows : List Row) (i : ℕ) (a : Option ℕ) (b : ℕ) → over x rows i a ≡ Some b → (d : ℕ) × (a ≡ Some d) × (d + x ≡ b) × (b ≤ (row rows i).deadline)
-over_some x rows i None b is = absurd (let o : ◌≡◌ {A = ℕ} 0 1 = cc in omega arith)
+over_some x rows i None b is = absurd (none-some b is)
 over_some x rows i (Some d) b is = let both = capped_some (row rows i).deadline (d + x) b is in (d, refl, both.0, both.1)
 
 pub over_laws : {T : Type 0} {answer : T → List Row → ℕ → List Bool → List ℕ → Option ℕ} → Laws answer → Laws {T = Overhead T} (λ o rows i s e. over o.extra rows i (answer o.below rows i s e))

@@ -1,8 +1,8 @@
 -- The assigner finds an order exactly when the range is open, from the laws alone.
 use Rattle.std.proofs.Common.{◌≡◌, ℕ, zero, suc, ◌+◌, ◌<◌, ◌≤◌, Bool, true, false, List, [], ◌∷◌, ◌++◌, length, take, Some, None, Option, option_and_then, sym, refl, ap, ◌∙◌, subst, inl, inr, add-one, arith, MatchOption}
 use Rattle.std.proofs.lemmas.List.{append-nil, length-append, get_or_append_left, get_or_at, append_assoc}
-use Rattle.std.proofs.lemmas.Option.{none-some}
-use Rattle.std.proofs.lemmas.Bool.{cases_Bool, cases_eq, cases_lt, cond-true, cond-false, and_parts, and_from, both_ways, leb-true, le-leb, false≢true}
+use Rattle.std.proofs.lemmas.Option.{none-some, same_Some}
+use Rattle.std.proofs.lemmas.Bool.{cases_eq, cases_lt, cond-true, and_parts, and_from, both_ways, leb-true, le-leb, false≢true}
 use Rattle.table.specs.declared.row.Row.{Row}
 use Rattle.table.specs.Places.{nth, put}
 use Rattle.table.proofs.Placed.{nth_put_same, nth_put_other, nth_replicate, length_put}
@@ -10,6 +10,7 @@ use Rattle.bounds.specs.Questions.{Sound, In, NoMore, Laws}
 use Rattle.bounds.specs.Loads.{sum_over}
 use Rattle.bounds.specs.Orders.{task_at, Order, first}
 use Rattle.bounds.specs.Responses.{least_from}
+use Rattle.bounds.specs.Compared.{given_when}
 use Rattle.bounds.specs.Leasts.{least_is, least_none, least_before}
 use Rattle.bounds.proofs.Descents.{first_none, first_more}
 use Rattle.bounds.specs.Sounds.{in_low}
@@ -90,7 +91,7 @@ module _ {T : Type 0} {answer : T → List Row → ℕ → List Bool → List �
 
   no_order : (l : ℕ) → Nothing l
   unfolding fill
-  no_order zero left placed is o = let z : ◌≡◌ {A = ℕ} 0 1 = cc in omega arith
+  no_order zero left placed is o = none-some placed (sym is)
   no_order (suc l) left placed is o = after l (no_order l) left placed (least_from (ok left) 1 (length rows)) refl is o
 
   -- an order that passes fills the levels
@@ -186,7 +187,7 @@ module _ {T : Type 0} {answer : T → List Row → ℕ → List Bool → List �
     Found' l = (left : List Bool) (placed order : List ℕ) → Tasks left l → fill answer t rows r l left placed ≡ Some order → (front : List ℕ) × (order ≡ front ++ placed) × Ordered left front l
 
     found_after : (l : ℕ) → Found' l → (left : List Bool) (placed order : List ℕ) (f : Option ℕ) → Tasks left (suc l) → least_from (ok left) 1 (length rows) ≡ f → option_and_then (λ k. fill answer t rows r l (put left k false) (k ∷ placed)) f ≡ Some order → (front : List ℕ) × (order ≡ front ++ placed) × Ordered left front (suc l)
-    found_after l below left placed order None h was is = absurd (let o : ◌≡◌ {A = ℕ} 0 1 = cc in omega arith)
+    found_after l below left placed order None h was is = absurd (none-some order is)
     found_after l below left placed order (Some k) h was is =
         let found = least_is (ok left) 1 (length rows) k was in
         let member = (and_parts (nth left k false) _ found.2).0 in
@@ -200,7 +201,7 @@ module _ {T : Type 0} {answer : T → List Row → ℕ → List Bool → List �
 
     found_all : (l : ℕ) → Found' l
     unfolding fill
-    found_all zero left placed order h is = ([], (let e : placed ≡ order = cc in sym e), ordered_none left h)
+    found_all zero left placed order h is = ([], sym (same_Some placed order is), ordered_none left h)
     found_all (suc l) left placed order h is = found_after l (found_all l) left placed order (least_from (ok left) 1 (length rows)) h refl is
 
     all_tasks : Tasks (full (length rows)) (length rows)
@@ -226,13 +227,6 @@ module _ {T : Type 0} {answer : T → List Row → ℕ → List Bool → List �
         subst (LowestNumbered answer t rows r) (sym (found.1 ∙ append-nil found.0))
         (λ p l k below member passes. found.2.lowest p l k (in_low _ k member) below (and_from (nth (first found.0 (p + 1)) k false) _ member (at_most_test _ _ passes)))
 
-    a_range : (order : List ℕ) → assigned answer t rows r ≡ Some order → withinb rows r ≡ true
-    a_range order is =
-        elim (cases_Bool (withinb rows r)) [
-          | inl y ↦ y
-          | inr z ↦ absurd (none-some order (sym (cond-false (withinb rows r) _ None z) ∙ is))
-        ]
-
     -- the range is decided
     pub decided : Within rows r → (found : Option (List ℕ)) → assigned answer t rows r ≡ found → MatchOption found (Closed answer t rows r) (λ order. Admits answer t rows r order)
     decided within None is = λ order admits. not_none few order admits.0 admits.1 (sym (cond-true (withinb rows r) _ None (within_test rows r within)) ∙ is)
@@ -247,4 +241,4 @@ module _ {T : Type 0} {answer : T → List Row → ℕ → List Bool → List �
     fills_lowest None is = tt
     fills_lowest (Some tasks) is =
         let order = take (length rows) tasks in
-        found_lowest order (sym (cond-true (withinb rows r) _ None (a_range order is.0)) ∙ is.0)
+        found_lowest order (given_when (withinb rows r) _ order is.0).1

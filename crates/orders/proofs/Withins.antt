@@ -1,23 +1,20 @@
 -- The computed test of a range says what Within says.
-use Rattle.std.proofs.Common.{◌≡◌, ℕ, sym, refl, ◌≤◌, Bool, true, leb, List, length, get_or, ap, ◌∙◌, arith}
+use Rattle.std.proofs.Common.{◌≡◌, ℕ, sym, refl, ◌≤◌, Bool, true, List, length, get_or, ap, ◌∙◌, arith}
 use Rattle.std.proofs.lemmas.List.{take_all}
 use Rattle.std.proofs.lemmas.Slice.Zip.{length-zip, get_or-zip}
-use Rattle.std.proofs.lemmas.Bool.{and_parts, and_from, leb-true, le-leb}
 use Rattle.std.specs.List.{list_all, zip}
 use Rattle.table.specs.declared.row.Row.{Row}
 use Rattle.table.specs.Rows.{row, filler, spans}
 use Rattle.table.proofs.Placed.{nth_next}
+use Rattle.table.proofs.Spanned.{spans_from, spans_test}
 use Rattle.bounds.proofs.Sounding.{all_to_list}
 use Rattle.bounds.specs.Sounds.{all_to_at, all_to_from}
 use Rattle.orders.specs.declared.range.Range.{Range}
-use Rattle.orders.specs.Ranges.{low, high, Within, withinb}
+use Rattle.orders.specs.Ranges.{Within, withinb}
 
 -- a low and a high lie within a row, computed
 abbrev pub lies : Row × (ℕ × ℕ) → Bool
 lies p = spans p.0 p.1.0 p.1.1
-
-abbrev liesb : List Row → Range → ℕ → Bool
-liesb rows r k = lies (row rows k, (low r k, high r k))
 
 -- the rows, each with its low and its high, are a range where each low and high lies within its row
 pub within_zipped : (rows : List Row) (r : Range) → length rows ≤ length r.lows → length rows ≤ length r.highs → list_all lies (zip rows (zip r.lows r.highs)) ≡ withinb rows r
@@ -26,16 +23,13 @@ within_zipped rows r lows highs =
     let many : length rows ≤ length ends = omega (arith, length-zip r.lows r.highs) in
     let all : length (zip rows ends) ≡ length rows = omega (arith, length-zip rows ends) in
     sym (ap (list_all lies) (take_all (length rows) (zip rows ends) (omega arith)))
-    ∙ all_to_list lies (liesb rows r) (zip rows ends) (filler, (0, 0)) (length rows) (omega arith) (λ i l.
+    ∙ all_to_list lies _ (zip rows ends) (filler, (0, 0)) (length rows) (omega arith) (λ i l.
     ap lies (get_or-zip rows ends i (filler, (0, 0)) l (omega arith))
     ∙ ap (λ e. lies (get_or rows i filler, e)) (get_or-zip r.lows r.highs i (0, 0) (omega arith) (omega arith))
     ∙ sym (rw (nth_next rows i filler, nth_next r.lows i 0, nth_next r.highs i 0) refl))
 
 pub within_from : (rows : List Row) (r : Range) → withinb rows r ≡ true → Within rows r
-within_from rows r h k names =
-    let a = and_parts (leb (row rows k).wcet (low r k)) _ (all_to_at (liesb rows r) (length rows) k h names.0 names.1) in
-    let b = and_parts (leb (low r k) (high r k)) _ a.1 in
-    (leb-true _ _ a.0, leb-true _ _ b.0, leb-true _ _ b.1)
+within_from rows r h k names = spans_from (row rows k) _ _ (all_to_at _ (length rows) k h names.0 names.1)
 
 pub within_test : (rows : List Row) (r : Range) → Within rows r → withinb rows r ≡ true
-within_test rows r h = all_to_from (liesb rows r) (length rows) (λ k a b. let w = h k (a, b) in and_from _ _ (le-leb _ _ w.0) (and_from _ _ (le-leb _ _ w.1) (le-leb _ _ w.2)))
+within_test rows r h = all_to_from _ (length rows) (λ k low high. spans_test (row rows k) _ _ (h k (low, high)))

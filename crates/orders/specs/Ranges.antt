@@ -1,8 +1,8 @@
 -- Ranges: what passes them, and when they are open, closed and wider.
-use Rattle.std.specs.Prelude.{ℕ, ◌<◌, ◌≤◌, Bool, ◌&&◌, ◌⊎◌, List, length, Option, nat_le}
+use Rattle.std.specs.Prelude.{ℕ, ◌<◌, ◌≤◌, Bool, ◌⊎◌, List, length, Option}
 use Rattle.table.specs.declared.row.Row.{Row}
 use Rattle.table.specs.Places.{nth}
-use Rattle.table.specs.Rows.{row, Names}
+use Rattle.table.specs.Rows.{row, spans, Names}
 use Rattle.bounds.specs.Questions.{all_to}
 use Rattle.bounds.specs.Orders.{Order, padded, PassesBy}
 use Rattle.orders.specs.declared.range.Range.{Range}
@@ -20,7 +20,7 @@ Within rows r = (k : ℕ) → Names rows k → ((row rows k).wcet ≤ low r k) �
 
 -- whether it is one, computed
 abbrev pub withinb : List Row → Range → Bool
-withinb rows r = all_to (λ k. nat_le (row rows k).wcet (low r k) && (nat_le (low r k) (high r k) && nat_le (high r k) (row rows k).deadline)) (length rows)
+withinb rows r = all_to (λ k. spans (row rows k) (low r k) (high r k)) (length rows)
 
 -- a range contains another: none of its lows is greater, and none of its highs is smaller
 abbrev pub Contains : List Row → Range → Range → Type 0

@@ -4,4 +4,5 @@ pub mod FromFn
 pub mod Made
 pub mod Moves
 pub mod Placed
+pub mod Spanned
 pub mod View
