@@ -45,7 +45,8 @@ impl Tally {
         tally
     }
 
-    // The next cap at which the loads could fit on `m` processors.
+    // The next cap at which the loads could fit on `m` processors. The limits are no invariant of the type: one
+    // function gives them, and this one alone relies on them.
     pub(crate) fn next_cap(self, m: Processors) -> u32
         requires { Limited self }
         ensures next { result ≡ cap_after self m.count }

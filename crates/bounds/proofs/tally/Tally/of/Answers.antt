@@ -37,4 +37,4 @@ loop-load-preserved c =
 pub returns-clause-limits : goal.returns-clause-limits
 returns-clause-limits c =
     let limits = tally_limits c.args.held.now c.loop-load.load-index c.args.cap c.loop-load.tally c.loop-load.invariant.0 c.requires.short in
-    (omega (arith, limits.0), omega (arith, limits.1), c.loop-load.invariant.1, omega (arith, limits.2))
+    (omega (arith, limits.0), c.loop-load.invariant.1, omega (arith, limits.2))
