@@ -7,7 +7,7 @@ fn greatest_left(numbers: &[u32; 32], chosen: &[bool; 32]) -> Option<usize>
     ensures { GreatestLeft numbers.now chosen.now result }
 {
     (0..32)
-        .filter(|&place| !chosen[place] && numbers[place] > 0)
+        .filter(|&place| numbers[place] > 0 && !chosen[place])
         .max_by_key(|&place| numbers[place])
 }
 

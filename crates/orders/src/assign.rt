@@ -89,6 +89,7 @@ pub fn assign<T: Test>(test: &T, table: &Table<Row>, range: &Range) -> Option<[u
     let mut left = all_tasks(rows);
     // An array with 0 past the last task, since no library crate has a heap.
     let mut order = [0; 32];
+    // By level: what is written through `iter_mut` would not be known once its loan ends.
     for level in (0..rows).rev() {
         let task = assigner.lowest_passing(&left)?;
         left[task - 1] = false;

@@ -26,8 +26,9 @@ impl<'a, T: Test> ClosedRange<'a, T> {
         Some(ClosedRange { test, table, range })
     }
 
-    // How far an end of the row at a place may be moved out. The place is of this table; a type that says
-    // so would carry the table again, and two arms for two ends are as plain as closures.
+    // How far an end of the row at a place may be moved out. End and place stay two parameters: a type that
+    // says that the place is of this table would carry the table again. Two arms for two ends are as plain
+    // as closures.
     fn span(&self, end: End, place: usize) -> u32
         requires { place < length (view self.now.table.now) }
         ensures { result ≡ span_of end (view self.now.table.now) self.now.range (place + 1) }
