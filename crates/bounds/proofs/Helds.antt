@@ -1,6 +1,6 @@
 -- The loads that are held in a window stand for its load, and for no more than that of a longer one.
-use Rattle.std.proofs.Common.{◌≡◌, ℕ, zero, suc, ◌+◌, ◌-◌, ◌<◌, ◌≤◌, min, Bool, true, false, cond, List, length, get_or, sym, refl, ap, ◌∙◌, inl, inr, arith}
-use Rattle.std.proofs.lemmas.Bool.{cases_Bool, cases_eq, cond-true, cond-false}
+use Rattle.std.proofs.Common.{◌≡◌, ℕ, zero, suc, ◌+◌, ◌-◌, ◌<◌, ◌≤◌, min, Bool, true, false, cond, List, Some, None, Option, length, get_or, sym, refl, ap, ◌∙◌, inl, inr, arith}
+use Rattle.std.proofs.lemmas.Bool.{cases_Bool, cases_eq, cond-true, cond-false, both_ways}
 use Rattle.std.proofs.lemmas.List.{get_or_default}
 use Rattle.table.specs.declared.row.Row.{Row}
 use Rattle.table.specs.Places.{nth}
@@ -11,9 +11,9 @@ use Rattle.bounds.specs.Questions.{In}
 use Rattle.bounds.specs.Posing.{own_row}
 use Rattle.bounds.specs.Loads.{work, cap_of, carried, plain, sum_to, total_of, sum_over}
 use Rattle.bounds.specs.Responses.{Choice, Greatest, carried_loads, plain_load, extra, limited_load}
-use Rattle.bounds.specs.Climbs.{Lists, work_at, Picked, Held, NeverFalls}
+use Rattle.bounds.specs.Climbs.{load_of, Lists, work_at, Picked, Held, NeverFalls}
 use Rattle.bounds.specs.Greatests.{greatest_is, greatest_one}
-use Rattle.bounds.specs.Sums.{sum_same, sum_mono, sum_add}
+use Rattle.bounds.specs.Sums.{sum_same, sum_mono, sum_add, over_mono}
 use Rattle.bounds.specs.Works.{work_mono}
 
 -- a sum over more places, all 0, is the sum before
@@ -201,6 +201,28 @@ module _ (q : Posed) (c l : ℕ)
         omega (arith, sum_mono (λ k. min (nth held k 0) (cap_of (own_row q) l')) (part l') 32 (part_later l' h), parts l', (greatest_is q.above.now (gain l') c (length q.rows.now)).exceeded is_chosen choice);
   }
 
--- what holds the load of a window shows that a longer one has no less, whoever carries load in
-pub never_falls : (load : ℕ → ℕ) (i : Row) (l : ℕ) (held : List ℕ) → Held load i l held → NeverFalls load l
-never_falls load i l held h l' le = omega (arith, h.here, h.later l' le, sum_mono (λ k. min (nth held k 0) (cap_of i l)) (λ k. min (nth held k 0) (cap_of i l')) 32 (λ k low high. omega arith))
+-- a longer window has no less load, whoever carries load in
+pub never_falls : (limit : Option ℕ) (q : Posed) → NeverFalls (load_of limit q)
+never_falls None q l l' h =
+    over_mono q.above.now q.above.now _ _ (length q.rows.now) (λ k y. y) (λ k low high y. omega (arith, work_mono (row q.rows.now k) (l + nth q.estimates.now k 0 - (row q.rows.now k).wcet) (l' + nth q.estimates.now k 0 - (row q.rows.now k).wcet) (omega arith)))
+never_falls (Some c) q l l' h =
+    let rows = q.rows.now in
+    let above : ℕ → Bool = λ k. nth q.above.now k false in
+    let plains : ℕ → ℕ → ℕ = λ x k. plain (own_row q) x (row rows k) in
+    let gains = extra rows q.task q.estimates.now in
+    let most = (greatest_is q.above.now (gains l) c (length rows)).reached in
+    let chosen = most.0 in
+    let longer = sum_mono (λ k. cond (above k) (plains l k) 0 + cond (chosen k) (gains l k) 0) (λ k. cond (above k) (plains l' k) 0 + cond (chosen k) (gains l' k) 0) (length rows) (λ k low high. elim (cases_Bool (above k)) [
+      | inl y ↦
+          let bare = work_mono (row rows k) l l' h in
+          let full = work_mono (row rows k) (l + nth q.estimates.now k 0 - (row rows k).wcet) (l' + nth q.estimates.now k 0 - (row rows k).wcet) (omega arith) in
+          elim (cases_Bool (chosen k)) [
+            | inl c ↦ omega (arith, bare, full, cond-true (above k) (plains l k) 0 y, cond-true (above k) (plains l' k) 0 y, cond-true (chosen k) (gains l k) 0 c, cond-true (chosen k) (gains l' k) 0 c)
+            | inr z ↦ omega (arith, bare, cond-true (above k) (plains l k) 0 y, cond-true (above k) (plains l' k) 0 y, cond-false (chosen k) (gains l k) 0 z, cond-false (chosen k) (gains l' k) 0 z)
+          ]
+      | inr out ↦ elim (cases_Bool (chosen k)) [
+        | inl c ↦ absurd (both_ways (above k) out (most.1.inside k c))
+        | inr z ↦ omega (arith, cond-false (above k) (plains l k) 0 out, cond-false (chosen k) (gains l k) 0 z)
+      ]
+    ]) in
+    omega (arith, most.2, longer, sum_add (λ k. cond (above k) (plains l k) 0) (λ k. cond (chosen k) (gains l k) 0) (length rows), sum_add (λ k. cond (above k) (plains l' k) 0) (λ k. cond (chosen k) (gains l' k) 0) (length rows), (greatest_is q.above.now (gains l') c (length rows)).exceeded chosen most.1)

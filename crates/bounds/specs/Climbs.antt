@@ -51,9 +51,9 @@ pub record Held (load : ℕ → ℕ) (i : Row) (l : ℕ) (held : List ℕ) : Typ
   pub here : held_to held 32 (cap_of i l) ≡ load l
   pub later : (l' : ℕ) → l ≤ l' → held_to held 32 (cap_of i l') ≤ load l'
 
--- from a window l on, the load never falls
-abbrev pub NeverFalls : (ℕ → ℕ) → ℕ → Type 0
-NeverFalls load l = (l' : ℕ) → l ≤ l' → load l ≤ load l'
+-- the load never falls as the window grows
+abbrev pub NeverFalls : (ℕ → ℕ) → Type 0
+NeverFalls load = (l l' : ℕ) → l ≤ l' → load l ≤ load l'
 
 -- none of the first n loads that are above y is below b
 abbrev pub NoneBelow : List ℕ → ℕ → ℕ → ℕ → Type 0

@@ -1,6 +1,6 @@
 // The climb to the least window that fits its load. What cannot fit is skipped.
 ghost use Rattle.std.specs.Prelude.{◌≡◌};
-ghost use Rattle.bounds.specs.Climbs.{load_of, climbs};
+ghost use Rattle.bounds.specs.Climbs.{load_of, NeverFalls, climbs};
 ghost use Rattle.bounds.specs.Posing.{own_row};
 ghost use Rattle.bounds.specs.Questions.{asked};
 ghost use Rattle.bounds.specs.Responses.{least_fit};
@@ -13,7 +13,8 @@ use crate::window::Window;
 
 // The least window from the task's wcet to its deadline that is long enough for its load.
 fn least_window(m: Processors, limit: Option<u32>, q: &Posed<'_>) -> Option<u32>
-    ensures { result ≡ least_fit m.count (own_row q.now) (load_of limit q.now) }
+    ensures found { result ≡ least_fit m.count (own_row q.now) (load_of limit q.now) }
+    ensures rises { NeverFalls (load_of limit q.now) }
 {
     let own = q.own();
     let wcet = own.wcet();

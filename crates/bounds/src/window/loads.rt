@@ -9,14 +9,14 @@ use table::row::Row;
 
 impl Window<'_> {
     // The most that the load of one task comes to.
-    pub(crate) fn cap(&self) -> u32
+    pub(super) fn cap(&self) -> u32
         ensures { result ≡ cap_of (own_row self.now.posed) self.now.length }
     {
         self.length - self.posed.own().wcet() + 1
     }
 
     // The work of a task with an estimate.
-    pub(crate) fn work_with(&self, row: Row, estimate: u32) -> u32
+    pub(super) fn work_with(&self, row: Row, estimate: u32) -> u32
         requires { (row.wcet ≤ estimate) × (estimate ≤ row.deadline) }
         ensures { result ≡ work row (self.now.length + estimate - row.wcet) }
     {

@@ -12,6 +12,6 @@ returns-in_err-q c = let q = c.args.q.now in c.from_residual.ensures ∙ sym (un
 pub returns : goal.returns
 returns c =
     let q = c.in_ok-q.q in
-    c.least_window.ensures
+    c.least_window.ensures.found
     ∙ sym (cond-true _ _ None (sound_test q.rows.now q.task q.above.now q.estimates.now q.sound))
     ∙ posed_same (climbs c.args.m.count c.args.limit) c.args.q.now q c.in_ok-q.ensures

@@ -1,37 +1,43 @@
-use Rattle.std.proofs.Common.{◌≡◌, ◌*◌, sym, ap, ◌∙◌, subst, arith}
-use Rattle.table.specs.declared.row.Row.{Row}
+use Rattle.std.proofs.Common.{◌≡◌, ◌*◌, sym, ap, subst, arith}
 use Rattle.bounds.specs.Posing.{own_row}
 use Rattle.bounds.specs.Climbs.{load_of}
+use Rattle.bounds.proofs.Helds.{never_falls}
 use Rattle.bounds.proofs.Skips.{Passed, passed_all, turn_found, turn_passed}
 use Rattle.bounds.proofs.climb.least_window.Goals as goal
 
-pub returns-then-tally-count : goal.returns-then-tally-count
-returns-then-tally-count c =
+pub returns-then-tally-count-clause-found : goal.returns-then-tally-count-clause-found
+returns-then-tally-count-clause-found c =
     let q = c.args.q.now in
     let load = load_of c.args.limit q in
-    let wcet : c.wcet-wcet.result ≡ (own_row q).wcet = c.wcet-wcet.ensures ∙ ap (λ (r : Row). r.wcet) c.own-own.ensures in
-    let deadline : c.deadline.result ≡ (own_row q).deadline = c.deadline.ensures ∙ ap (λ (r : Row). r.deadline) c.own-own.ensures in
+    let wcet : c.wcet-wcet.result ≡ (own_row q).wcet = cc in
+    let deadline : c.deadline.result ≡ (own_row q).deadline = cc in
     turn_found c.args.m.count (omega (arith, c.args.m.ok)) (own_row q) load c.loop-cap.cap c.loop-cap.invariant.0 c.loop-cap.invariant.1
-    c.wcet-wcet.result wcet c.held_loads-held.result c.of-tally.result c.held_loads-held.ensures.held c.of-tally.ensures.sums
+    c.wcet-wcet.result wcet c.held_loads-held.result c.of-tally.result c.held_loads-held.ensures c.of-tally.ensures.sums
     (omega (arith, c.loop-cap-test.true, wcet, deadline))
     (omega (arith, c.if-tally-count.true, ap (λ n. n * c.loop-cap.cap) c.count.ensures))
+
+pub returns-then-tally-count-clause-rises : goal.returns-then-tally-count-clause-rises
+returns-then-tally-count-clause-rises c = never_falls c.args.limit c.args.q.now
 
 pub loop-cap-preserved : goal.loop-cap-preserved
 loop-cap-preserved c =
     let q = c.args.q.now in
     let load = load_of c.args.limit q in
-    let wcet : c.wcet-wcet.result ≡ (own_row q).wcet = c.wcet-wcet.ensures ∙ ap (λ (r : Row). r.wcet) c.own-own.ensures in (
+    let wcet : c.wcet-wcet.result ≡ (own_row q).wcet = cc in (
       omega (arith, c.next_cap-cap.ensures.next),
       subst (Passed c.args.m.count (own_row q) load) (sym c.next_cap-cap.ensures.next)
           (turn_passed c.args.m.count (omega (arith, c.args.m.ok)) (own_row q) load c.loop-cap.cap c.loop-cap.invariant.0 c.loop-cap.invariant.1
-          c.wcet-wcet.result wcet c.held_loads-held.result c.of-tally.result c.held_loads-held.ensures.held c.of-tally.ensures.sums),
+          c.wcet-wcet.result wcet c.held_loads-held.result c.of-tally.result c.held_loads-held.ensures c.of-tally.ensures.sums),
     )
 
-pub returns : goal.returns
-returns c =
+pub returns-clause-found : goal.returns-clause-found
+returns-clause-found c =
     let q = c.args.q.now in
     let load = load_of c.args.limit q in
-    let wcet : c.wcet-wcet.result ≡ (own_row q).wcet = c.wcet-wcet.ensures ∙ ap (λ (r : Row). r.wcet) c.own-own.ensures in
-    let deadline : c.deadline.result ≡ (own_row q).deadline = c.deadline.ensures ∙ ap (λ (r : Row). r.deadline) c.own-own.ensures in
+    let wcet : c.wcet-wcet.result ≡ (own_row q).wcet = cc in
+    let deadline : c.deadline.result ≡ (own_row q).deadline = cc in
     sym (passed_all c.args.m.count (omega (arith, c.args.m.ok)) (own_row q) load c.loop-cap.cap c.loop-cap.invariant.0 c.loop-cap.invariant.1
     (omega (arith, c.loop-cap-test.false, wcet, deadline)))
+
+pub returns-clause-rises : goal.returns-clause-rises
+returns-clause-rises c = never_falls c.args.limit c.args.q.now

@@ -1,7 +1,6 @@
 use Rattle.std.proofs.Common.{◌≡◌, ◌+◌, false, [], ◌∷◌, length, length-append, sym, refl, ap, ◌∙◌, arith}
 use Rattle.std.proofs.lemmas.Bool.{cond-true, cond-false}
 use Rattle.std.proofs.lemmas.Slice.Zip.{zip_turn}
-use Rattle.table.specs.declared.row.Row.{Row}
 use Rattle.bounds.specs.Loads.{sum_over, deadline_part}
 use Rattle.bounds.specs.Posing.{own_row}
 use Rattle.bounds.specs.Sounds.{row_read}
@@ -25,7 +24,7 @@ loop-row-preserved-then-above c =
     let part = deadline_part q.rows.now q.task in
     let turn = zip_turn q.rows.now q.above.now c.loop-row.yielded c.into_iter-row-iterator.result c.loop-row.row-iterator c.next.new.self c.next.result (cc) (cc) c.loop-row.yielded_by (c.in-Some.row, c.in-Some.above) c.in-Some.is c.next.ensures.steps in
     let one = row_read q.rows.now place c.in-Some.row.now turn.0 (turn.2 c.in-Some.row.now) in
-    let deadline : c.deadline.result ≡ (own_row q).deadline = c.deadline.ensures ∙ ap (λ (r : Row). r.deadline) c.own.ensures in
+    let deadline : c.deadline.result ≡ (own_row q).deadline = cc in
     let load = deadline_part_lem q.rows.now q.task (place + 1) (own_row q) c.in-Some.row.now c.deadline.result c.deadline-then-above.result c.carried_load-load.result refl one deadline c.deadline-then-above.ensures c.carried_load-load.ensures in
     let adds = cond-true _ (part (place + 1)) 0 (sym (turn.3 false) ∙ c.if-above.true) in
     let more = over_more q.above.now part place in
