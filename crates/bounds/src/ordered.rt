@@ -6,7 +6,7 @@ ghost use Rattle.bounds.specs.Orders.{Order};
 use table::row::Row;
 use table::rows::Table;
 
-pub(crate) mod made;
+mod made;
 
 // The table has a row, and the list names each of its rows once.
 #[derive(Clone, Copy)]

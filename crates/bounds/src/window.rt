@@ -4,14 +4,14 @@ ghost use Rattle.bounds.specs.Posing.{own_row};
 
 use crate::posed::Posed;
 
-pub mod held;
-pub mod loads;
+mod held;
+mod loads;
 
 /// A window by its length, from the task's wcet to its deadline.
 #[derive(Clone, Copy)]
 pub(crate) struct Window<'a> {
-    pub(crate) posed: Posed<'a>,
-    pub(crate) length: u32,
+    pub posed: Posed<'a>,
+    pub length: u32,
     ghost low: { (own_row posed).wcet ≤ length },
     ghost high: { length ≤ (own_row posed).deadline },
 }

@@ -13,7 +13,7 @@ use table::rows::Table;
 pub(crate) struct ClosedRange<'a, T: Test> {
     test: &'a T,
     table: &'a Table<Row>,
-    pub(crate) range: Range,
+    pub range: Range,
     ghost within: { Within (view table.now) range },
     ghost closed: { Closed T.answer test.now (view table.now) range },
 }
