@@ -4,7 +4,8 @@ ghost use Rattle.bounds.specs.Climbs.{Tallied, Limited, NoneDo, next_cap as cap_
 
 use crate::processors::Processors;
 
-// A load before the cap is at most a window and a deadline long.
+// What `least` starts at: a load before the cap is at most a window and a deadline long. A bound and no flag; with
+// an `Option` the climb took a third longer.
 const LONGEST: u32 = 2_000_000;
 
 #[derive(Clone, Copy)]

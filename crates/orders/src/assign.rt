@@ -41,7 +41,7 @@ struct Assigner<'a, T> {
 }
 
 impl<T: Test> Assigner<'_, T> {
-    // Whether an unplaced task passes below all the others.
+    // Whether an unplaced task passes below all the others. A type for a number from 1 to 32 would be no plainer.
     fn passes(&self, left: &[bool; 32], k: usize) -> bool
         requires { (1 ≤ k) × (k ≤ 32) }
         ensures { let rows = view self.now.table.now in
@@ -73,6 +73,7 @@ impl<T: Test> Assigner<'_, T> {
     }
 }
 
+// Test and table come apart here, in `grow`, `analyse` and `check`: a caller would make a struct for one call.
 /// An order that passes the range, the highest task first, if there is one. Levels are filled from
 /// the lowest up, each by the lowest-numbered task left that passes there.
 pub fn assign<T: Test>(test: &T, table: &Table<Row>, range: &Range) -> Option<[usize; 32]>

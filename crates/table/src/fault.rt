@@ -51,7 +51,7 @@ pub enum Fault {
 }
 
 impl Fault {
-    /// The number of the question that was missed: the rules number them, and programs print it.
+    /// The number of the question that was missed: the rules number them, and print the number.
     pub fn number(self) -> u32
         ensures { result ≡ number_of self }
     {

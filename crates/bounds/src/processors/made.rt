@@ -1,4 +1,5 @@
-// A number of processors is made here and nowhere else: by `new`, as rows and tests are. `TryFrom` would be no plainer.
+// A number of processors is made here and nowhere else: by `new`, as rows and
+// tests are. `TryFrom` would be no plainer: a reader of `try_into()` has to look for the type.
 ghost use Rattle.std.specs.Prelude.{◌≡◌};
 ghost use Rattle.bounds.specs.Made.{MadeProcessors};
 

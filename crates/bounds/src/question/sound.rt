@@ -8,7 +8,8 @@ use super::Question;
 use crate::posed::Posed;
 
 impl<'a> Question<'a> {
-    // Whether the row at a place has a sound estimate, and what is no row is not above.
+    // Whether the row at a place has a sound estimate, and what is no row is not above. The place is the index of an
+    // array of 32 and nothing more: a type for it would be no plainer.
     fn fits_at(&self, place: usize) -> bool
         requires { place < 32 }
         ensures { result ≡ fitsb (view self.now.table.now) self.now.above.now self.now.estimates.now (place + 1) }

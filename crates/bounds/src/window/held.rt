@@ -32,7 +32,9 @@ fn mixed(carried: &[u32; 32], plain: &[u32; 32], chosen: &[bool; 32]) -> [u32; 3
 }
 
 impl Window<'_> {
-    // The work of the task at a place, with its estimate if it carries load in; 0 if it is not above.
+    // The work of the task at a place, with its estimate if it carries load in; 0 if it is not above. The place is the
+    // index of an array of 32 and nothing more: a type for it would be no plainer. Nor would two methods or a closure
+    // be for the two cases, which differ in one number.
     fn work_of(&self, place: usize, carries: bool) -> u32
         requires place { place < 32 }
         ensures { result ≡ work_at self.now.posed self.now.length carries (place + 1) }
