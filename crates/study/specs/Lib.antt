@@ -1,0 +1,5 @@
+pub mod Slots
+pub mod Counts
+pub mod Calls
+pub mod Moments
+pub mod Begins

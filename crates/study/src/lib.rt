@@ -1,0 +1,7 @@
+#![tactic(auto)]
+
+pub mod finding;
+mod lists;
+pub mod room;
+pub mod state;
+pub mod study;

@@ -1,0 +1,98 @@
+// A new study, its edits, and what can be read of it.
+ghost use Rattle.std.specs.Prelude.{◌≡◌};
+ghost use Rattle.table.specs.Rows.{Adds, Alters, Removes};
+ghost use Rattle.study.specs.Calls.{IsNew, IsDraft, Edits};
+
+use super::Study;
+use crate::state::State;
+use table::fault::Fault;
+use table::row::Row;
+use table::rows::Table;
+
+impl Study {
+    /// An empty draft.
+    pub fn new() -> Study
+        ensures { IsNew result }
+    {
+        Study {
+            table: Table::new(),
+            state: State::Draft,
+            ledger: 0,
+            pending: 0,
+            steps: 0,
+        }
+    }
+
+    /// The table, for `analyse`, `check` and `same`.
+    pub fn table(&self) -> &Table<Row>
+        ensures { result.now ≡ self.now.table }
+    {
+        &self.table
+    }
+
+    /// Where the study stands.
+    pub fn state(&self) -> State
+        ensures { result ≡ self.now.state }
+    {
+        self.state
+    }
+
+    /// How many ledger slots are counted.
+    pub fn ledger(&self) -> usize
+        ensures { result ≡ self.now.ledger }
+    {
+        self.ledger
+    }
+
+    /// How many pending slots are counted.
+    pub fn pending(&self) -> usize
+        ensures { result ≡ self.now.pending }
+    {
+        self.pending
+    }
+
+    /// How many steps were taken since the last accepted begin.
+    pub fn steps(&self) -> usize
+        ensures { result ≡ self.now.steps }
+    {
+        self.steps
+    }
+
+    // Makes it a draft, with nothing counted.
+    fn redraft(&mut self)
+        ensures draft { IsDraft self.new }
+        ensures table { self.new.table ≡ self.old.table }
+    {
+        self.state = State::Draft;
+        self.ledger = 0;
+        self.pending = 0;
+        self.steps = 0;
+    }
+
+    /// Puts the row of these numbers after the last one.
+    pub fn add(&mut self, wcet: u32, period: u32, deadline: u32) -> Result<(), Fault>
+        ensures { Edits (λ t r u. Adds t wcet period deadline r u) self.old result self.new }
+    {
+        self.table.add(wcet, period, deadline)?;
+        self.redraft();
+        Ok(())
+    }
+
+    /// Replaces row `k`; every other row stands as it stood.
+    pub fn alter(&mut self, k: usize, wcet: u32, period: u32, deadline: u32) -> Result<(), Fault>
+        ensures { Edits (λ t r u. Alters t k wcet period deadline r u) self.old result self.new }
+    {
+        self.table.alter(k, wcet, period, deadline)?;
+        self.redraft();
+        Ok(())
+    }
+
+    /// Takes row `k` out; the later rows move up by one.
+    pub fn remove(&mut self, k: usize) -> Result<(), Fault>
+        ensures { Edits (λ t r u. Removes t k r u) self.old result self.new }
+    {
+        self.table.remove(k)?;
+        self.redraft();
+        Ok(())
+    }
+}
