@@ -1,2 +1,3 @@
 pub mod Overs
 pub mod Edited
+pub mod Pieced

@@ -3,3 +3,4 @@ pub mod Counts
 pub mod Calls
 pub mod Moments
 pub mod Begins
+pub mod Pieces

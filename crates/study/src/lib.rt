@@ -2,6 +2,7 @@
 
 pub mod finding;
 mod lists;
+mod pieces;
 pub mod room;
 pub mod state;
 pub mod study;
