@@ -34,8 +34,8 @@ pub record Begun (room : Room) (before after : Moment) : Type 0 where
   pub ledger : after.study.ledger ≡ 0
   pub pending : after.study.pending ≡ 1
   pub steps : after.study.steps ≡ 0
-  pub kept : after.ledger ≡ before.ledger
-  pub written : after.pending ≡ put_slot before.pending 1 (whole (rows_of before))
+  pub ledger_list : after.ledger ≡ before.ledger
+  pub pending_list : after.pending ≡ put_slot before.pending 1 (whole (rows_of before))
 
 -- begin: is there a row, and have both lists their whole slots?
 abbrev pub Begins : Moment → Result (Unit {0}) Fault → Moment → Type 0

@@ -4,3 +4,5 @@ pub mod Calls
 pub mod Moments
 pub mod Begins
 pub mod Pieces
+pub mod Turns
+pub mod Steps

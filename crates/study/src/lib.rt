@@ -6,3 +6,4 @@ mod pieces;
 pub mod room;
 pub mod state;
 pub mod study;
+mod turn;

@@ -1,11 +1,16 @@
 // Ranges in a lent list: 64 numbers to a slot, the lows of 32 rows and then their highs.
-ghost use Rattle.std.specs.Prelude.{◌≡◌, ℕ, ◌+◌, ◌*◌, ◌≤◌, length, take, drop, IfSome, IfNone};
+ghost use Rattle.std.specs.Prelude.{◌≡◌, ℕ, ◌+◌, ◌*◌, ◌≤◌, ◌↔◌, length, take, drop, IfSome, IfNone, IsTrue};
+ghost use Rattle.table.specs.Rows.{view};
+ghost use Rattle.study.specs.Steps.{ZeroPast, IsSlot};
 ghost use Rattle.study.specs.Slots.{over, slot, put_slot, HasSlots};
 
+use orders::assign::is_range;
 use orders::range::Range;
+use table::row::Row;
+use table::rows::Table;
 
 // How many numbers a slot has, and how many rows they are for.
-const SLOT: usize = 64;
+pub(crate) const SLOT: usize = 64;
 
 const ROWS: usize = 32;
 
@@ -62,4 +67,20 @@ pub(crate) fn read_slot(list: &[u32], k: usize) -> Range
         lows: read_part(list, at),
         highs: read_part(list, at + ROWS),
     }
+}
+
+// Whether a list by row has 0 past its last row.
+fn is_zero_past(numbers: &[u32; 32], rows: usize) -> bool
+    requires { rows ≤ 32 }
+    ensures { IsTrue result ↔ ZeroPast rows numbers.now }
+{
+    numbers[rows..].iter().all(|&number| number == 0)
+}
+
+// Whether this is a range of the table, with 0 past the last row.
+pub(crate) fn is_slot(table: &Table<Row>, range: &Range) -> bool
+    ensures { IsTrue result ↔ IsSlot (view table.now) range.now }
+{
+    let rows = table.len();
+    is_range(table, range) && is_zero_past(&range.lows, rows) && is_zero_past(&range.highs, rows)
 }

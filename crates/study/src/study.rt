@@ -7,6 +7,7 @@ use table::rows::Table;
 
 pub mod begin;
 pub mod edits;
+mod step;
 
 #[derive(Drop)]
 pub struct Study {

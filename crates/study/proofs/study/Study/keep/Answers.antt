@@ -1,0 +1,4 @@
+use Rattle.study.proofs.study.Study.keep.Goals as goal
+
+pub returns-then-self-room-clause-full : goal.returns-then-self-room-clause-full
+returns-then-self-room-clause-full c p full = c.end.ensures c.args.ledger.now p
