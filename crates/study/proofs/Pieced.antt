@@ -120,7 +120,7 @@ module _ (taken u : Range) (list : List ℕ) (k : ℕ) where
     written_given now' lesser is h wrote =
         let range : List ℕ → List ℕ → Range = λ lows highs. record { lows = lows; highs = highs } in
         let one : range (set c.lows place (get_or u.highs place 0 + 1)) c.highs ≡ piece taken u (place + 1) =
-            ap₂ (λ l m. range (set l place (get_or u.highs place 0 + 1)) m) so_far.lows so_far.highs ∙ sym (piece_next taken u place) in
+        ap₂ (λ l m. range (set l place (get_or u.highs place 0 + 1)) m) so_far.lows so_far.highs ∙ sym (piece_next taken u place) in
         record {
           put = wrote ∙ ap (put_slot now next) one ∙ ap₂ (λ l n. put_slot l n (piece taken u (place + 1))) so_far.put so_far.place_is
               ∙ sym (put_slots_last (pieces taken u place) list k (piece taken u (place + 1))) ∙ ap (put_slots list k) (sym (pieces_given taken u place (given_at taken u place h)));

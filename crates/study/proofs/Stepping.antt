@@ -17,7 +17,7 @@ pub record Divided {T : Type 0} (answer : T → List Row → ℕ → List Bool �
   pub turn : Turns answer t (rows_of before) taken (Split u)
   pub has : before.study.ledger < room.ledger → before.study.pending - 1 + length (pieces taken u (length (rows_of before))) ≤ room.pending
       → Leaves before (state.Running room) (before.study.ledger + 1) (before.study.pending - 1 + length (pieces taken u (length (rows_of before))))
-        (keep before u) (put_slots before.pending before.study.pending (pieces taken u (length (rows_of before)))) after
+      (keep before u) (put_slots before.pending before.study.pending (pieces taken u (length (rows_of before)))) after
   pub lacks : (room.ledger ≤ before.study.ledger) ⊎ (room.pending < before.study.pending - 1 + length (pieces taken u (length (rows_of before)))) → Ends before state.Stopped after
 
 module _ {T : Type 0} (answer : T → List Row → ℕ → List Bool → List ℕ → Option ℕ) (t : T) (room : Room) (before after : Moment) (some : 1 ≤ before.study.pending) (taken : Range) (is : taken ≡ taken_of before) where

@@ -6,3 +6,4 @@ pub mod Begins
 pub mod Pieces
 pub mod Turns
 pub mod Steps
+pub mod Machine

@@ -80,7 +80,7 @@ module _ {T : Type 0} (answer : T → List Row → ℕ → List Bool → List �
     splits : (u : Range) → 1 ≤ before.study.pending → Open answer t (rows_of before) (taken_of before) → Closed answer t (rows_of before) (lows_of (taken_of before)) → GrowsTo answer t (rows_of before) (lows_of (taken_of before)) u
         → before.study.ledger < room.ledger → pending_after before u ≤ room.pending
         → Leaves before (state.Running room) (before.study.ledger + 1) (pending_after before u)
-          (keep before u) (put_slots before.pending before.study.pending (pieces_of before u)) after → Stepped room before after
+        (keep before u) (put_slots before.pending before.study.pending (pieces_of before u)) after → Stepped room before after
     -- neither, and a ledger or pending slot is lacking
     stops : (u : Range) → 1 ≤ before.study.pending → Open answer t (rows_of before) (taken_of before) → Closed answer t (rows_of before) (lows_of (taken_of before)) → GrowsTo answer t (rows_of before) (lows_of (taken_of before)) u
         → (room.ledger ≤ before.study.ledger) ⊎ (room.pending < pending_after before u)

@@ -1,5 +1,7 @@
 #![tactic(auto)]
 
+pub mod call;
+pub mod edit;
 pub mod finding;
 mod lists;
 mod pieces;

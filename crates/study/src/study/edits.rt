@@ -1,9 +1,10 @@
 // A new study, its edits, and what can be read of it.
 ghost use Rattle.std.specs.Prelude.{◌≡◌};
 ghost use Rattle.table.specs.Rows.{Adds, Alters, Removes};
-ghost use Rattle.study.specs.Calls.{IsNew, IsDraft, Edits};
+ghost use Rattle.study.specs.Calls.{IsNew, IsDraft, Edits, EditsBy};
 
 use super::Study;
+use crate::edit::Edit;
 use crate::state::State;
 use table::fault::Fault;
 use table::row::Row;
@@ -94,5 +95,24 @@ impl Study {
         self.table.remove(k)?;
         self.redraft();
         Ok(())
+    }
+    // Does an edit.
+    pub(super) fn edit(&mut self, edit: Edit) -> Result<(), Fault>
+        ensures { EditsBy edit self.old result self.new }
+    {
+        match edit {
+            Edit::Add {
+                wcet,
+                period,
+                deadline,
+            } => self.add(wcet, period, deadline),
+            Edit::Alter {
+                k,
+                wcet,
+                period,
+                deadline,
+            } => self.alter(k, wcet, period, deadline),
+            Edit::Remove { k } => self.remove(k),
+        }
     }
 }

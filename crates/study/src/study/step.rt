@@ -1,15 +1,19 @@
 // One step of a search.
-ghost use Rattle.std.specs.Prelude.{◌≡◌, ℕ, ◌+◌, ◌-◌, ◌*◌, ◌<◌, ◌≤◌, ◌⊎◌, List, length, IfOk, IfErr, MatchOption};
+ghost use Rattle.std.specs.Prelude.{◌≡◌, ℕ, ◌+◌, ◌-◌, ◌*◌, ◌<◌, ◌≤◌, ◌⊎◌, List, length, Ok, IfOk, IfErr, MatchOption};
 ghost use Rattle.table.specs.declared.fault.Fault.TheVariants.{OtherLists};
+ghost use Rattle.table.specs.Asking.{Asks};
 ghost use Rattle.table.specs.Rows.{view};
 ghost use Rattle.study.specs.declared.state.State.TheVariants as state;
 ghost use Rattle.study.specs.Counts.{verdicts};
+ghost use Rattle.study.specs.Begins.{Refuses};
+ghost use Rattle.study.specs.Machine.{Calls};
 ghost use Rattle.study.specs.Moments.{moment};
 ghost use Rattle.study.specs.Pieces.{pieces, put_slots};
 ghost use Rattle.study.specs.Steps.{AsLeft, Ends, IsSlot, Leaves, Runs, Stepped, keep, taken_of};
 
 use super::Study;
-use crate::lists::{is_slot, read_slot, write_slot, SLOT};
+use crate::call::Call;
+use crate::lists::{SLOT, is_slot, read_slot, write_slot};
 use crate::pieces::{count_pieces, write_pieces};
 use crate::room::Room;
 use crate::state::State;
@@ -21,7 +25,12 @@ use table::row::Row;
 
 impl Study {
     // The last counted pending range, if any is counted; or a refusal where the lists are not as the search left them.
-    fn last_pending(&self, room: Room, ledger: &[u32], pending: &[u32]) -> Result<Option<Range>, Fault>
+    fn last_pending(
+        &self,
+        room: Room,
+        ledger: &[u32],
+        pending: &[u32],
+    ) -> Result<Option<Range>, Fault>
         requires { Runs room (moment self.now ledger.now pending.now) }
         ensures left { let m = moment self.now ledger.now pending.now in
             IfOk result (λ taken. AsLeft room m × MatchOption taken (self.now.pending ≡ 0) (λ r. (1 ≤ self.now.pending) × (r ≡ taken_of m))) }
@@ -71,7 +80,14 @@ impl Study {
     }
     // Puts the grown list of the last pending range's lows into the ledger and the range's pieces in its place, if
     // both lists have the slots.
-    fn split(&mut self, room: Room, taken: &Range, bound: &Range, ledger: &mut [u32], pending: &mut [u32])
+    fn split(
+        &mut self,
+        room: Room,
+        taken: &Range,
+        bound: &Range,
+        ledger: &mut [u32],
+        pending: &mut [u32],
+    )
         requires runs { self.old.state ≡ state.Running room }
         requires some { 1 ≤ self.old.pending }
         requires long { (length ledger.old ≡ 64 * room.ledger) × (length pending.old ≡ 64 * room.pending) }
@@ -96,7 +112,14 @@ impl Study {
     }
 
     // Does one step's work with the last pending range.
-    fn advance<T: Test>(&mut self, test: &T, room: Room, taken: &Range, ledger: &mut [u32], pending: &mut [u32])
+    fn advance<T: Test>(
+        &mut self,
+        test: &T,
+        room: Room,
+        taken: &Range,
+        ledger: &mut [u32],
+        pending: &mut [u32],
+    )
         requires runs { self.old.state ≡ state.Running room }
         requires some { 1 ≤ self.old.pending }
         requires left { AsLeft room (moment self.old ledger.old pending.old) }
@@ -107,6 +130,51 @@ impl Study {
             Turn::Keep(grown) => self.keep(room, &grown, ledger),
             Turn::Find(finding) => self.end(room, State::Found(finding)),
             Turn::Split(bound) => self.split(room, taken, &bound, ledger, pending),
+        }
+    }
+    // One step of a running search.
+    fn step_on<T: Test>(
+        &mut self,
+        test: &T,
+        room: Room,
+        ledger: &mut [u32],
+        pending: &mut [u32],
+    ) -> Result<(), Fault>
+        requires { self.old.state ≡ state.Running room }
+        ensures { let before = moment self.old ledger.old pending.old in
+            let after = moment self.new ledger.new pending.new in
+            Asks (AsLeft room before) (Refuses OtherLists before result after) ((result ≡ Ok tt) × Stepped T.answer test.now room before after) }
+    {
+        match self.last_pending(room, ledger, pending)? {
+            None => self.end(room, State::None),
+            Some(taken) => self.advance(test, room, &taken, ledger, pending),
+        }
+        Ok(())
+    }
+
+    // Does what a call asks, in the state that the study is in.
+    pub(crate) fn call<T: Test>(
+        &mut self,
+        call: Call,
+        test: &T,
+        ledger: &mut [u32],
+        pending: &mut [u32],
+    ) -> Result<(), Fault>
+        ensures { Calls T.answer test.now call (moment self.old ledger.old pending.old) result (moment self.new ledger.new pending.new) }
+    {
+        match (call, self.state) {
+            (
+                Call::Edit(edit),
+                State::Draft | State::Running(_) | State::Found(_) | State::None | State::Stopped,
+            ) => self.edit(edit),
+            (
+                Call::Begin,
+                State::Draft | State::Running(_) | State::Found(_) | State::None | State::Stopped,
+            ) => self.begin(ledger, pending),
+            (Call::Step, State::Running(room)) => self.step_on(test, room, ledger, pending),
+            (Call::Step, State::Draft | State::Found(_) | State::None | State::Stopped) => {
+                Err(Fault::NotRunning)
+            }
         }
     }
 }

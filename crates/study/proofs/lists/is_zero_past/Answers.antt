@@ -12,5 +12,5 @@ returns c =
     let rows = c.args.rows in
     let rest = c.iter.ensures.rest ∙ take_all (32 - rows) (drop rows numbers) (omega (arith, length-drop rows numbers, c.told-numbers)) in
     let is : c.all.result ≡ list_all (λ n. nat_eq n 0) (drop rows numbers) =
-        all_from_yields_List (λ n. nat_eq n 0) c.all.new.self _ c.all.result c.all.ensures.ran (YieldsList-from_slice (drop rows numbers) rest) (λ x b q called. search (rules, tests)) in
+    all_from_yields_List (λ n. nat_eq n 0) c.all.new.self _ c.all.result c.all.ensures.ran (YieldsList-from_slice (drop rows numbers) rest) (λ x b q called. search (rules, tests)) in
     (λ yes. zero_from rows numbers (sym is ∙ yes), λ past. is ∙ zero_test rows numbers past)

@@ -24,11 +24,11 @@ loop-place-preserved c =
     let next : List ℕ → ℕ → Type 0 = λ now slot. Written taken bound c.args.list.now c.args.k (c.loop-place.place + 1) now slot (record { lows = c.loop-place.cut.lows; highs = set c.loop-place.cut.highs c.loop-place.place c.min.result }) in
     elim c.if-high-taken.branch [
       | then-high-taken w ↦
-        let on = written_given taken bound c.args.list.now c.args.k c.loop-place.place c.loop-place.list c.loop-place.slot c.loop-place.cut so_far w.write_slot.new.list c.min.result c.min.ensures w.if-high-taken.true w.write_slot.ensures in
-        subst (λ slot. next c.if-high-taken.list slot) (sym w.slot-is) (subst (λ now. next now (c.loop-place.slot + 1)) (sym w.list-is) on)
+          let on = written_given taken bound c.args.list.now c.args.k c.loop-place.place c.loop-place.list c.loop-place.slot c.loop-place.cut so_far w.write_slot.new.list c.min.result c.min.ensures w.if-high-taken.true w.write_slot.ensures in
+          subst (λ slot. next c.if-high-taken.list slot) (sym w.slot-is) (subst (λ now. next now (c.loop-place.slot + 1)) (sym w.list-is) on)
       | else-high-taken w ↦
-        let on = written_not taken bound c.args.list.now c.args.k c.loop-place.place c.loop-place.list c.loop-place.slot c.loop-place.cut so_far c.min.result c.min.ensures w.if-high-taken.false in
-        subst (λ slot. next c.if-high-taken.list slot) (sym w.slot-is) (subst (λ now. next now c.loop-place.slot) (sym w.list-is) on)
+          let on = written_not taken bound c.args.list.now c.args.k c.loop-place.place c.loop-place.list c.loop-place.slot c.loop-place.cut so_far c.min.result c.min.ensures w.if-high-taken.false in
+          subst (λ slot. next c.if-high-taken.list slot) (sym w.slot-is) (subst (λ now. next now c.loop-place.slot) (sym w.list-is) on)
     ]
 
 pub returns : goal.returns
