@@ -4,3 +4,6 @@ pub mod Pieced
 pub mod Turned
 pub mod Zeros
 pub mod Stepping
+pub mod Covers
+pub mod Runs
+pub mod Sought

@@ -7,3 +7,4 @@ pub mod Pieces
 pub mod Turns
 pub mod Steps
 pub mod Machine
+pub mod Histories
