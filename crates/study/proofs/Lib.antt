@@ -7,3 +7,6 @@ pub mod Stepping
 pub mod Covers
 pub mod Runs
 pub mod Sought
+pub mod Standing
+pub mod Started
+pub mod Lawful

@@ -11,10 +11,10 @@ use Rattle.study.specs.declared.room.Room.{Room}
 use Rattle.study.specs.declared.finding.Finding.{Finding}
 use Rattle.study.specs.declared.state.State.TheVariants as state
 use Rattle.study.specs.Counts.{verdicts}
-use Rattle.study.specs.Slots.{HasSlots, slot}
+use Rattle.study.specs.Slots.{slot}
 use Rattle.study.specs.Calls.{IsNew, EditsBy}
 use Rattle.study.specs.Moments.{Moment, moment, rows_of}
-use Rattle.study.specs.Begins.{Begins}
+use Rattle.study.specs.Begins.{HasRoom, Begins}
 use Rattle.study.specs.Steps.{Runs, AsLeft, Steps}
 
 -- What a history counts: the ledger slots of the last accepted begin, the accepted steps since, and whether the last call was an accepted step.
@@ -46,7 +46,7 @@ module _ {T : Type 0} (answer : T → List Row → ℕ → List Bool → List �
     -- an edit, accepted or refused
     edit : {m : Moment} {c : Tally} → History m c → (e : Edit) (r : Result (Unit {0}) Fault) (s : Study) → EditsBy e m.study r s → History (moment s m.ledger m.pending) (other c)
     -- an accepted begin, on the lists at hand or on two others, which take their place
-    begin : {m : Moment} {c : Tally} → History m c → (l p : List ℕ) (after : Moment) (n : ℕ) → Begins (moment m.study l p) (Ok tt) after → HasSlots l n → History after (begun n)
+    begin : {m : Moment} {c : Tally} → History m c → (l p : List ℕ) (after : Moment) (room : Room) → HasRoom room (moment m.study l p) → Begins (moment m.study l p) (Ok tt) after → History after (begun room.ledger)
     -- a refused begin, on any lists: those at hand stay
     no_begin : {m : Moment} {c : Tally} → History m c → (l p : List ℕ) (after : Moment) (e : Fault) → Begins (moment m.study l p) (Err e) after → History (moment after.study m.ledger m.pending) (other c)
     -- an accepted step, on the lists at hand
