@@ -20,7 +20,7 @@ use Rattle.study.specs.Calls.{IsNew, IsDraft, EditsBy}
 use Rattle.study.specs.Moments.{Moment, moment, rows_of}
 use Rattle.study.specs.Begins.{HasRoom, Begun, Begins}
 use Rattle.study.specs.Steps.{Runs, AsLeft, Leaves, Stepped, Steps, none, keeps, full, finds, splits, stops}
-use Rattle.study.specs.Histories.{Tally, none_begun, begun, one_more, other, Promise, History, Law, start, edit, begin, no_begin, step, no_step}
+use Rattle.study.specs.Histories.{Tally, none_begun, begun, one_more, other, Means, Promise, StepPromise, History, Law, start, edit, begin, no_begin, step, no_step}
 use Rattle.study.proofs.Sought.{Holding, AllBarred, Sought, sought_kept, sought_split, slot_full}
 use Rattle.study.proofs.Standing.{finding_holds, every_late}
 use Rattle.study.proofs.Started.{sought_begun}
@@ -33,7 +33,7 @@ kind (state.Found finding) = 2
 kind state.None = 3
 kind state.Stopped = 4
 
-abbrev room_of : Room → State → Room
+abbrev pub room_of : Room → State → Room
 room_of d state.Draft = d
 room_of d (state.Running room) = room
 room_of d (state.Found finding) = d
@@ -49,16 +49,16 @@ finding_of d state.Stopped = d
 
 module _ {T : Type 0} (answer : T → List Row → ℕ → List Bool → List ℕ → Option ℕ) (t : T) where
   -- what a moment's verdict and ledger say, on these rows, in this state, with n ledger slots counted
-  record Stands (rows : List Row) (s : State) (n : ℕ) (l : List ℕ) : Type 0 where
-    found : (f : Finding) → s ≡ state.Found f → Order (length rows) (take (length rows) f.order) × Holds answer t rows (take (length rows) f.order)
-    none : s ≡ state.None → (order : List ℕ) → Order (length rows) order → HasLate answer t rows order
-    barred : AllBarred answer t rows n l
-    covered : s ≡ state.None → (es : List ℕ) → Estimates rows es → Holding rows l n es
+  pub record Stands (rows : List Row) (s : State) (n : ℕ) (l : List ℕ) : Type 0 where
+    pub found : (f : Finding) → s ≡ state.Found f → Order (length rows) (take (length rows) f.order) × Holds answer t rows (take (length rows) f.order)
+    pub none : s ≡ state.None → (order : List ℕ) → Order (length rows) order → HasLate answer t rows order
+    pub barred : AllBarred answer t rows n l
+    pub covered : s ≡ state.None → (es : List ℕ) → Estimates rows es → Holding rows l n es
 
   -- and, if a search is running, what it keeps
-  record Keeps (rows : List Row) (s : State) (n m : ℕ) (l p : List ℕ) : Type 0 where
-    stands : Stands rows s n l
-    runs : (room : Room) → s ≡ state.Running room → Sought answer t rows room n m l p
+  pub record Keeps (rows : List Row) (s : State) (n m : ℕ) (l p : List ℕ) : Type 0 where
+    pub stands : Stands rows s n l
+    pub runs : (room : Room) → s ≡ state.Running room → Sought answer t rows room n m l p
 
   -- in a state that is no verdict on orders, only the ledger speaks
   quiet : (rows : List Row) (s : State) (n : ℕ) (l : List ℕ) → ((f : Finding) → s ≡ state.Found f → ⊥) → (s ≡ state.None → ⊥) → AllBarred answer t rows n l → Stands rows s n l
@@ -105,7 +105,7 @@ module _ {T : Type 0} (answer : T → List Row → ℕ → List Bool → List �
   }
 
   -- the same of a moment
-  abbrev KeepsAt : Moment → Type 0
+  abbrev pub KeepsAt : Moment → Type 0
   KeepsAt m = Keeps (rows_of m) m.study.state m.study.ledger m.study.pending m.ledger m.pending
 
   keeps_at : (after : Moment) (rows : List Row) (s : State) (n m : ℕ) (l p : List ℕ) → rows_of after ≡ rows → after.study.state ≡ s → after.study.ledger ≡ n → after.study.pending ≡ m → after.ledger ≡ l → after.pending ≡ p → Keeps rows s n m l p → KeepsAt after
@@ -124,14 +124,14 @@ module _ {T : Type 0} (answer : T → List Row → ℕ → List Bool → List �
   draft_keeps : (s : Study) (l p : List ℕ) → IsDraft s → KeepsAt (moment s l p)
   draft_keeps s l p draft = keeps_at (moment s l p) (view s.table) state.Draft 0 0 l p refl draft.state draft.ledger draft.pending refl refl (drafted (view s.table) l p)
 
-  begun_keeps : (room : Room) (before after : Moment) → HasRoom room before → Begun room before after → KeepsAt after
+  pub begun_keeps : (room : Room) (before after : Moment) → HasRoom room before → Begun room before after → KeepsAt after
   begun_keeps room before after has begins =
       let few = few_rows before.study.table in
       keeps_at after (rows_of before) (state.Running room) 0 1 _ _ (ap view begins.table) begins.state begins.ledger begins.pending begins.ledger_list begins.pending_list
       (running (rows_of before) room 0 1 _ _ (sought_begun (rows_of before) few answer t room before.ledger before.pending has.1.0 has.0.2 has.1.2))
 
   module _ (laws : Laws answer) where
-    stepped_keeps : (room : Room) (before after : Moment) → KeepsAt before → Runs room before → Stepped answer t room before after → KeepsAt after
+    pub stepped_keeps : (room : Room) (before after : Moment) → KeepsAt before → Runs room before → Stepped answer t room before after → KeepsAt after
     stepped_keeps room before after at runs stepped =
         let rows = rows_of before in
         let n = before.study.ledger in
@@ -154,14 +154,14 @@ module _ {T : Type 0} (answer : T → List Row → ℕ → List Bool → List �
         ]
 
 -- what a running study's counts say
-counted_running : (s : Study) (room : Room) → s.state ≡ state.Running room → (s.ledger ≤ room.ledger) × (s.steps ≡ s.ledger)
-counted_running s room is = let c = subst (λ x. Counted x s.ledger s.pending s.steps) is s.counted in (c.0, omega (arith, c.4))
+pub counted_running : (s : Study) (room : Room) → s.state ≡ state.Running room → (s.ledger ≤ room.ledger) × (s.steps ≡ s.ledger) × (room.ledger ≤ 4096)
+counted_running s room is = let c = subst (λ x. Counted x s.ledger s.pending s.steps) is s.counted in (c.0, omega (arith, c.4), c.1)
 
 -- A moment's tally: while a search is running, it is that of the search.
-record Told (m : Moment) (c : Tally) : Type 0 where
-  bounded : c.steps ≤ c.slots + 1
-  last : c.stepped ≡ true → c.steps ≡ c.slots + 1 → verdicts m.study.state ≡ 1
-  runs : (room : Room) → Runs room m → (c.slots ≡ room.ledger) × (c.steps ≡ m.study.steps)
+pub record Told (m : Moment) (c : Tally) : Type 0 where
+  pub bounded : c.steps ≤ c.slots + 1
+  pub last : c.stepped ≡ true → c.steps ≡ c.slots + 1 → verdicts m.study.state ≡ 1
+  pub runs : (room : Room) → Runs room m → (c.slots ≡ room.ledger) × (c.steps ≡ m.study.steps)
 
 -- a refused call, or an edit
 told_other : (m after : Moment) (c : Tally) → Told m c → after.study ≡ m.study → Told after (other c)
@@ -179,7 +179,7 @@ told_draft after slots steps le draft = record {
 }
 
 -- an accepted begin
-told_begun : (room : Room) (after : Moment) (slots : ℕ) → slots ≡ room.ledger → after.study.state ≡ state.Running room → after.study.steps ≡ 0 → Told after (begun slots)
+pub told_begun : (room : Room) (after : Moment) (slots : ℕ) → slots ≡ room.ledger → after.study.state ≡ state.Running room → after.study.steps ≡ 0 → Told after (begun slots)
 told_begun room after slots same is steps = record {
   bounded = omega arith;
   last = λ no. absurd (false≢true no);
@@ -209,7 +209,7 @@ module _ (room : Room) (before after : Moment) (c : Tally) (told : Told before c
         runs = λ r runs'. (was.0 ∙ ap (λ (x : Room). x.ledger) (ap (room_of room) (sym is ∙ runs')), omega (arith, was.1, steps));
       }
 
-  told_stepped : {T : Type 0} (answer : T → List Row → ℕ → List Bool → List ℕ → Option ℕ) (t : T) → Stepped answer t room before after → Told after (one_more c)
+  pub told_stepped : {T : Type 0} (answer : T → List Row → ℕ → List Bool → List ℕ → Option ℕ) (t : T) → Stepped answer t room before after → Told after (one_more c)
   told_stepped answer t stepped = elim stepped [
     | none nothing ends ↦ told_ended state.None ends.state refl
     | keeps grown some closed grows left leaves ↦ told_running leaves.state leaves.steps
@@ -220,7 +220,7 @@ module _ (room : Room) (before after : Moment) (c : Tally) (told : Told before c
   ]
 
 -- an accepted call is not a refused one
-ok≢err : (e : Fault) → ◌≡◌ {A = Result (Unit {0}) Fault} (Ok tt) (Err e) → ⊥
+pub ok≢err : (e : Fault) → ◌≡◌ {A = Result (Unit {0}) Fault} (Ok tt) (Err e) → ⊥
 ok≢err e is = false≢true (sym (ap is_ok is))
 
 edit_parts : (e : Edit) (s : Study) (r : Result (Unit {0}) Fault) (after : Study) → EditsBy e s r after → IfOk r (λ _. IsDraft after) × IfErr r (λ _. after ≡ s)
@@ -229,20 +229,20 @@ edit_parts (Alter k wcet period deadline) s r after edits = (edits.1, edits.2)
 edit_parts (Remove k) s r after edits = (edits.1, edits.2)
 
 -- an accepted begin had a row, and its search has begun
-begin_accepted : (before after : Moment) (room : Room) → HasRoom room before → Begins before (Ok tt) after → (r : Room) × HasRoom r before × Begun r before after
+pub begin_accepted : (before after : Moment) (room : Room) → HasRoom room before → Begins before (Ok tt) after → (r : Room) × HasRoom r before × Begun r before after
 begin_accepted before after room has begins = elim (cases_lt 0 (length (rows_of before))) [
   | inl some ↦ let on = (begins.1 (omega arith)).1 (room, has) in (on.0, on.1, on.3)
   | inr few ↦ absurd (ok≢err Empty (begins.0 (λ one. omega arith)).0)
 ]
 
 -- a refused begin alters nothing
-begin_refused : (before after : Moment) (e : Fault) → Begins before (Err e) after → after ≡ before
+pub begin_refused : (before after : Moment) (e : Fault) → Begins before (Err e) after → after ≡ before
 begin_refused before after e begins = elim (cases_lt 0 (length (rows_of before))) [
   | inl some ↦ let asks = begins.1 (omega arith) in (asks.0 (λ q. ok≢err e (sym (asks.1 q).2))).1
   | inr few ↦ (begins.0 (λ one. omega arith)).1
 ]
 
-running_or_not : (s : State) → ((room : Room) × (s ≡ state.Running room)) ⊎ (((room : Room) × (s ≡ state.Running room)) → ⊥)
+pub running_or_not : (s : State) → ((room : Room) × (s ≡ state.Running room)) ⊎ (((room : Room) × (s ≡ state.Running room)) → ⊥)
 running_or_not state.Draft = inr (λ q. omega (arith, ap kind q.1))
 running_or_not (state.Running room) = inl (room, refl)
 running_or_not (state.Found f) = inr (λ q. omega (arith, ap kind q.1))
@@ -265,10 +265,14 @@ module _ {T : Type 0} (answer : T → List Row → ℕ → List Bool → List �
   ]
 
   -- while a search is running, the lists are as it left them
-  ready : (m : Moment) → KeepsAt answer t m → (room : Room) → Runs room m → AsLeft room m
+  pub ready : (m : Moment) → KeepsAt answer t m → (room : Room) → Runs room m → AsLeft room m
   ready m at room runs =
       let sought = at.runs room runs in
       (sought.long_ledger, sought.long_pending, λ some. sought.waiting m.study.pending some (omega arith))
+
+  -- what is kept of a moment is what it means
+  pub means : (m : Moment) → KeepsAt answer t m → Means answer t m
+  means m at = record { found = at.stands.found; none = at.stands.none; ledger = at.stands.barred; covered = at.stands.covered }
 
   -- a call that leaves the study as it was
   as_it_was : (m : Moment) (c : Tally) (s : Study) → s ≡ m.study → KeepsAt answer t m × Told m c → KeepsAt answer t (moment s m.ledger m.pending) × Told (moment s m.ledger m.pending) (other c)
@@ -296,12 +300,16 @@ module _ {T : Type 0} (answer : T → List Row → ℕ → List Bool → List �
     law m c h =
         let at = along h in
         record {
-          found = at.0.stands.found;
-          none = at.0.stands.none;
-          ledger = at.0.stands.barred;
-          covered = at.0.stands.covered;
+          means = means m at.0;
           counted = m.study.counted.4;
           bounded = at.1.bounded;
           last = at.1.last;
           ready = ready m at.0;
         }
+
+    -- the promise after a step from the end of a history
+    pub step_promise : (m after : Moment) (c : Tally) (r : Result (Unit {0}) Fault) → Steps answer t m r after → History answer t m c → StepPromise answer t after c r
+    step_promise m after c (Ok x) steps h = (law after (one_more c) (step h after steps), tt)
+    step_promise m after c (Err e) steps h =
+        let same = step_refused m after e steps in
+        (tt, subst (λ x. Promise answer t x (other c)) (sym same) (law m (other c) (subst (λ x. History answer t (moment x.study m.ledger m.pending) (other c)) same (no_step h m.ledger m.pending after e steps))))

@@ -10,3 +10,4 @@ pub mod Sought
 pub mod Standing
 pub mod Started
 pub mod Lawful
+pub mod Going

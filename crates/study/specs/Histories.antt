@@ -1,5 +1,5 @@
 -- Histories of calls, and the law that holds after each call.
-use Rattle.std.specs.Prelude.{◌≡◌, ℕ, ◌+◌, ◌≤◌, Bool, true, false, List, length, take, Ok, Err, Result, Option}
+use Rattle.std.specs.Prelude.{◌≡◌, ℕ, ◌+◌, ◌≤◌, Bool, true, false, List, length, take, Ok, Err, Result, IfOk, IfErr, Option}
 use Rattle.table.specs.declared.row.Row.{Row}
 use Rattle.table.specs.declared.fault.Fault.{Fault}
 use Rattle.bounds.specs.Orders.{Order, Estimates, Holds, HasLate}
@@ -60,8 +60,8 @@ module _ {T : Type 0} (answer : T → List Row → ℕ → List Bool → List �
     pub closed : Closed answer t rows r
     pub wider : (w : Range) → Within rows w → Wider rows w r → Open answer t rows w
 
-  -- What is promised of a moment.
-  pub record Promise (m : Moment) (c : Tally) : Type 0 where
+  -- What a verdict and a ledger mean.
+  pub record Means (m : Moment) : Type 0 where
     -- found: the order shown lists every row once, and no task of it is late
     pub found : (f : Finding) → m.study.state ≡ state.Found f → Order (length (rows_of m)) (take (length (rows_of m)) f.order) × Holds answer t (rows_of m) (take (length (rows_of m)) f.order)
     -- none: every order has a late task
@@ -70,6 +70,10 @@ module _ {T : Type 0} (answer : T → List Row → ℕ → List Bool → List �
     pub ledger : (i : ℕ) → 1 ≤ i → i ≤ m.study.ledger → Barred (rows_of m) (slot m.ledger i)
     -- on none, every list of estimates lies in a counted ledger range
     pub covered : m.study.state ≡ state.None → (estimates : List ℕ) → Estimates (rows_of m) estimates → (i : ℕ) × (1 ≤ i) × (i ≤ m.study.ledger) × LiesIn (rows_of m) estimates (slot m.ledger i)
+
+  -- What is promised of a moment.
+  pub record Promise (m : Moment) (c : Tally) : Type 0 where
+    pub means : Means m
     -- the steps are as many as the ledger ranges, and one more if there is a verdict
     pub counted : m.study.steps ≡ m.study.ledger + verdicts m.study.state
     -- since an accepted begin on s ledger slots there were at most s + 1 accepted steps
@@ -82,3 +86,7 @@ module _ {T : Type 0} (answer : T → List Row → ℕ → List Bool → List �
   -- The law: the promise holds after each call of every history.
   abbrev pub Law : Type 0
   Law = (m : Moment) (c : Tally) → History m c → Promise m c
+
+  -- the promise after a step that was accepted or refused
+  abbrev pub StepPromise : Moment → Tally → Result (Unit {0}) Fault → Type 0
+  StepPromise after c r = IfOk r (λ _. Promise after (one_more c)) × IfErr r (λ _. Promise after (other c))

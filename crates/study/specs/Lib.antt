@@ -8,3 +8,4 @@ pub mod Turns
 pub mod Steps
 pub mod Machine
 pub mod Histories
+pub mod Searches

@@ -7,7 +7,8 @@ use table::rows::Table;
 
 pub mod begin;
 pub mod edits;
-mod step;
+pub mod search;
+pub mod step;
 
 #[derive(Drop)]
 pub struct Study {

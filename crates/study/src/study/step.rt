@@ -6,10 +6,11 @@ ghost use Rattle.table.specs.Rows.{view};
 ghost use Rattle.study.specs.declared.state.State.TheVariants as state;
 ghost use Rattle.study.specs.Counts.{verdicts};
 ghost use Rattle.study.specs.Begins.{Refuses};
+ghost use Rattle.study.specs.Histories.{Tally, History, Law, StepPromise};
 ghost use Rattle.study.specs.Machine.{Calls};
 ghost use Rattle.study.specs.Moments.{moment};
 ghost use Rattle.study.specs.Pieces.{pieces, put_slots};
-ghost use Rattle.study.specs.Steps.{AsLeft, Ends, IsSlot, Leaves, Runs, Stepped, keep, taken_of};
+ghost use Rattle.study.specs.Steps.{AsLeft, Ends, Leaves, Runs, Stepped, Steps, keep, taken_of};
 
 use super::Study;
 use crate::call::Call;
@@ -176,5 +177,14 @@ impl Study {
                 Err(Fault::NotRunning)
             }
         }
+    }
+    /// One step of the search that is running.
+    pub fn step<T: Test>(&mut self, test: &T, ledger: &mut [u32], pending: &mut [u32]) -> Result<(), Fault>
+        ensures does { Steps T.answer test.now (moment self.old ledger.old pending.old) result (moment self.new ledger.new pending.new) }
+        ensures law { Law T.answer test.now }
+        ensures promise { (c : Tally) → History T.answer test.now (moment self.old ledger.old pending.old) c →
+            StepPromise T.answer test.now (moment self.new ledger.new pending.new) c result }
+    {
+        self.call(Call::Step, test, ledger, pending)
     }
 }
