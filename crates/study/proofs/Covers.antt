@@ -59,17 +59,17 @@ module _ (taken u : Range) where
       let own = piece taken u (suc n) in
       elim (cases_lt (high u (suc n)) (high taken (suc n))) [
         | inl given ↦
-          let is = more n given in
-          elim (cases_lt i (length (pieces taken u n))) [
-            | inl early ↦ let was = piece_of n i d early in (was.0, was.1, omega (arith, was.2), was.3, ap (λ l. get_or l i d) is ∙ get_or_append_left (pieces taken u n) (own ∷ []) d i early ∙ was.4)
-            | inr late ↦
-              let here : i ≡ length (pieces taken u n) = omega (arith, ap length is, length-append (pieces taken u n) (own ∷ [])) in
-              (suc n, omega arith, omega arith, given, ap (λ l. get_or l i d) is ∙ get_or_push (pieces taken u n) own d i (sym here))
-          ]
+            let is = more n given in
+            elim (cases_lt i (length (pieces taken u n))) [
+              | inl early ↦ let was = piece_of n i d early in (was.0, was.1, omega (arith, was.2), was.3, ap (λ l. get_or l i d) is ∙ get_or_append_left (pieces taken u n) (own ∷ []) d i early ∙ was.4)
+              | inr late ↦
+                  let here : i ≡ length (pieces taken u n) = omega (arith, ap length is, length-append (pieces taken u n) (own ∷ [])) in
+                  (suc n, omega arith, omega arith, given, ap (λ l. get_or l i d) is ∙ get_or_push (pieces taken u n) own d i (sym here))
+            ]
         | inr not_given ↦
-          let is = same n not_given in
-          let was = piece_of n i d (omega (arith, ap length is)) in
-          (was.0, was.1, omega (arith, was.2), was.3, ap (λ l. get_or l i d) is ∙ was.4)
+            let is = same n not_given in
+            let was = piece_of n i d (omega (arith, ap length is)) in
+            (was.0, was.1, omega (arith, was.2), was.3, ap (λ l. get_or l i d) is ∙ was.4)
       ]
 
   -- and each such row has its piece
@@ -79,18 +79,18 @@ module _ (taken u : Range) where
       let own = piece taken u (suc n) in
       elim (cases_eq k (suc n)) [
         | inl e ↦
-          let is = more n (subst (λ m. high u m < high taken m) e given) in
-          (length (pieces taken u n), omega (arith, ap length is, length-append (pieces taken u n) (own ∷ [])), ap (λ l. get_or l (length (pieces taken u n)) d) is ∙ get_or_push (pieces taken u n) own d _ refl ∙ ap (piece taken u) (sym e))
+            let is = more n (subst (λ m. high u m < high taken m) e given) in
+            (length (pieces taken u n), omega (arith, ap length is, length-append (pieces taken u n) (own ∷ [])), ap (λ l. get_or l (length (pieces taken u n)) d) is ∙ get_or_push (pieces taken u n) own d _ refl ∙ ap (piece taken u) (sym e))
         | inr apart ↦
-          let was = place_of n k d some (omega arith) given in
-          elim (cases_lt (high u (suc n)) (high taken (suc n))) [
-            | inl has ↦
-              let is = more n has in
-              (was.0, omega (arith, was.1, ap length is, length-append (pieces taken u n) (own ∷ [])), ap (λ l. get_or l was.0 d) is ∙ get_or_append_left (pieces taken u n) (own ∷ []) d was.0 was.1 ∙ was.2)
-            | inr not_given ↦
-              let is = same n not_given in
-              (was.0, omega (arith, was.1, ap length is), ap (λ l. get_or l was.0 d) is ∙ was.2)
-          ]
+            let was = place_of n k d some (omega arith) given in
+            elim (cases_lt (high u (suc n)) (high taken (suc n))) [
+              | inl has ↦
+                  let is = more n has in
+                  (was.0, omega (arith, was.1, ap length is, length-append (pieces taken u n) (own ∷ [])), ap (λ l. get_or l was.0 d) is ∙ get_or_append_left (pieces taken u n) (own ∷ []) d was.0 was.1 ∙ was.2)
+              | inr not_given ↦
+                  let is = same n not_given in
+                  (was.0, omega (arith, was.1, ap length is), ap (λ l. get_or l was.0 d) is ∙ was.2)
+            ]
       ]
 
 -- the ends of row k lie between its C and its D
@@ -112,25 +112,24 @@ module _ (rows : List Row) (few : length rows ≤ 32) (taken u : Range) (full : 
   -- a piece is a range of the table, with 0 past the last row
   pub piece_slot : IsSlot rows taken → ((k : ℕ) → Names rows k → low taken k ≤ high u k) → (k : ℕ) → Names rows k → high u k < high taken k → IsSlot rows (piece taken u k)
   piece_slot (within, zero_lows, zero_highs) bounded k names given =
-      let own = own_low taken u full k names.0 (omega (arith, names.1)) in
-      (
+      let own = own_low taken u full k names.0 (omega (arith, names.1)) in (
         λ j named.
-          let at = within j named in
-          elim (cases_lt j k) [
-            | inl before ↦
-              let other = other_low taken u full k j (λ e. omega arith) in
-              let cut = high_before taken u full k j named.0 before (omega (arith, names.1)) in
-              let above = bounded j named in
-              (omega (arith, at.0, other), omega (arith, at.1, other, cut, above), omega (arith, at.2, cut))
-            | inr rest ↦
-              let top = high_rest taken u full k j rest in
-              elim (cases_eq j k) [
-                | inl e ↦ subst (In_row rows (piece taken u k)) (sym e) (omega (arith, (within k names).0, bounded k names, own), omega (arith, own, given, high_rest taken u full k k (omega arith)), omega (arith, (within k names).2, high_rest taken u full k k (omega arith)))
-                | inr apart ↦ let other = other_low taken u full k j apart in (omega (arith, at.0, other), omega (arith, at.1, other, top), omega (arith, at.2, top))
-              ]
-          ],
+            let at = within j named in
+            elim (cases_lt j k) [
+              | inl before ↦
+                  let other = other_low taken u full k j (λ e. omega arith) in
+                  let cut = high_before taken u full k j named.0 before (omega (arith, names.1)) in
+                  let above = bounded j named in
+                  (omega (arith, at.0, other), omega (arith, at.1, other, cut, above), omega (arith, at.2, cut))
+              | inr rest ↦
+                  let top = high_rest taken u full k j rest in
+                  elim (cases_eq j k) [
+                    | inl e ↦ subst (In_row rows (piece taken u k)) (sym e) (omega (arith, (within k names).0, bounded k names, own), omega (arith, own, given, high_rest taken u full k k (omega arith)), omega (arith, (within k names).2, high_rest taken u full k k (omega arith)))
+                    | inr apart ↦ let other = other_low taken u full k j apart in (omega (arith, at.0, other), omega (arith, at.1, other, top), omega (arith, at.2, top))
+                  ]
+            ],
         λ j past. other_low taken u full k j (λ e. omega (arith, names.1)) ∙ zero_lows j past,
-        λ j past. high_rest taken u full k j (omega (arith, names.1)) ∙ zero_highs j past
+        λ j past. high_rest taken u full k j (omega (arith, names.1)) ∙ zero_highs j past,
       )
 
   -- estimates in the taken range lie in U, or in the piece of the first row whose estimate is above its U-high
@@ -139,18 +138,22 @@ module _ (rows : List Row) (few : length rows ≤ 32) (taken u : Range) (full : 
   covered e lies below = elim (first_above (length rows) (low (as_range e)) u) [
     | inl under ↦ inl (λ k names. (omega (arith, below k names, (lies k names).0), under k names.0 names.1))
     | inr found ↦
-      let k = found.0 in
-      let names : Names rows k = (found.1, found.2) in
-      let own = own_low taken u full k names.0 (omega (arith, names.1)) in
-      inr (k, names, omega (arith, found.3, (lies k names).1), λ j named.
-      (
-        elim (cases_eq j k) [
-          | inl is ↦ subst (λ m. low (piece taken u k) m ≤ low (as_range e) m) (sym is) (omega (arith, own, found.3))
-          | inr apart ↦ omega (arith, other_low taken u full k j apart, (lies j named).0)
-        ],
-        elim (cases_lt j k) [
-          | inl before ↦ omega (arith, high_before taken u full k j named.0 before (omega (arith, names.1)), found.4 j named.0 before, (lies j named).1)
-          | inr rest ↦ omega (arith, high_rest taken u full k j rest, (lies j named).1)
-        ]
-      ))
+        let k = found.0 in
+        let names : Names rows k = (found.1, found.2) in
+        let own = own_low taken u full k names.0 (omega (arith, names.1)) in
+        inr (
+          k,
+          names,
+          omega (arith, found.3, (lies k names).1),
+          λ j named. (
+            elim (cases_eq j k) [
+              | inl is ↦ subst (λ m. low (piece taken u k) m ≤ low (as_range e) m) (sym is) (omega (arith, own, found.3))
+              | inr apart ↦ omega (arith, other_low taken u full k j apart, (lies j named).0)
+            ],
+            elim (cases_lt j k) [
+              | inl before ↦ omega (arith, high_before taken u full k j named.0 before (omega (arith, names.1)), found.4 j named.0 before, (lies j named).1)
+              | inr rest ↦ omega (arith, high_rest taken u full k j rest, (lies j named).1)
+            ],
+          ),
+        )
   ]

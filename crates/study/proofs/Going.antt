@@ -36,17 +36,20 @@ module _ {T : Type 0} (answer : T → List Row → ℕ → List Bool → List �
 
   pub going_begun : (room : Room) (before after : Moment) → HasRoom room before → Begins before (Ok tt) after → (r : Room) × HasRoom r before × Going r before after
   going_begun room before after has begun =
-      let on = begin_accepted before after room has begun in
-      (on.0, on.1, record {
-        count = 0;
-        stepped = false;
-        leads = begins begun;
-        at = begun_keeps answer t on.0 before after on.1 on.2;
-        told = told_begun on.0 after on.0.ledger refl on.2.state on.2.steps;
-        same = sym on.2.steps;
-        alive = inl on.2.state;
-        past = λ c h. begin h before.ledger before.pending after on.0 on.1 begun;
-      })
+      let on = begin_accepted before after room has begun in (
+        on.0,
+        on.1,
+        record {
+          count = 0;
+          stepped = false;
+          leads = begins begun;
+          at = begun_keeps answer t on.0 before after on.1 on.2;
+          told = told_begun on.0 after on.0.ledger refl on.2.state on.2.steps;
+          same = sym on.2.steps;
+          alive = inl on.2.state;
+          past = λ c h. begin h before.ledger before.pending after on.0 on.1 begun;
+        },
+      )
 
   -- while a search is running, it is this one
   pub going_runs : (room : Room) (before m : Moment) → Going room before m → ((r : Room) × Runs r m) → Runs room m
@@ -100,22 +103,24 @@ module _ {T : Type 0} (answer : T → List Row → ℕ → List Bool → List �
     pub searches_ended : 1 ≤ length (rows_of before) → HasRoom room before → Searches answer t before (Ok tt) m
     searches_ended some has = (
       λ empty. absurd (empty some),
-      λ _. (λ bad. absurd (bad (room, has)), λ _. (room, has, refl, record { count = going.count; leads = going.leads; bounded = going.told.bounded; ends = ended.0 }))
+      λ _. (λ bad. absurd (bad (room, has)), λ _. (room, has, refl, record { count = going.count; leads = going.leads; bounded = going.told.bounded; ends = ended.0 })),
     )
 
     pub promise_ended : (laws : Laws answer) → HasRoom room before → (c : Tally) → History answer t before c → SearchPromise answer t before m c (Ok tt)
     promise_ended laws has c h =
         let slots : room.ledger ≡ length before.ledger / 64 = omega (arith, has.0.2) in
-        let promise = law answer t laws m (tally_at room going.count going.stepped) (going.past c h) in
-        (subst (λ n. Promise answer t m (record { slots = n; steps = m.study.steps; stepped = true })) slots
-         (subst (λ n. Promise answer t m (record { slots = room.ledger; steps = n; stepped = true })) going.same
-         (subst (λ b. Promise answer t m (record { slots = room.ledger; steps = going.count; stepped = b })) ended.1 promise)), tt)
+        let promise = law answer t laws m (tally_at room going.count going.stepped) (going.past c h) in (
+          subst (λ n. Promise answer t m (record { slots = n; steps = m.study.steps; stepped = true })) slots
+              (subst (λ n. Promise answer t m (record { slots = room.ledger; steps = n; stepped = true })) going.same
+              (subst (λ b. Promise answer t m (record { slots = room.ledger; steps = going.count; stepped = b })) ended.1 promise)),
+          tt,
+        )
 
   -- refused as begin is
   pub searches_refused : (before after : Moment) (e : Fault) → Begins before (Err e) after → Searches answer t before (Err e) after
   searches_refused before after e refused = (
     refused.0,
-    λ some. ((refused.1 some).0, λ q. absurd (ok≢err e (sym ((refused.1 some).1 q).2)))
+    λ some. ((refused.1 some).0, λ q. absurd (ok≢err e (sym ((refused.1 some).1 q).2))),
   )
 
   pub promise_refused : (laws : Laws answer) (before after : Moment) (e : Fault) → Begins before (Err e) after → (c : Tally) → History answer t before c → (r : Result (Unit {0}) Fault) → IsErr r → SearchPromise answer t before after c r
@@ -142,12 +147,15 @@ has_slots list =
 -- an accepted begin had a row and room
 pub begin_had : (before after : Moment) → Begins before (Ok tt) after → (1 ≤ length (rows_of before)) × ((room : Room) × HasRoom room before)
 begin_had before after begun = elim (cases_lt 0 (length (rows_of before))) [
-  | inl some ↦ (omega arith, elim (has_slots before.ledger) [
-    | inl l ↦ elim (has_slots before.pending) [
-      | inl p ↦ (record { ledger = l.0; pending = p.0 }, (l.1, p.1))
-      | inr other ↦ absurd (ok≢err BadSlots ((begun.1 (omega arith)).0 (λ q. other (q.0.pending, q.1.1))).0)
-    ]
-    | inr other ↦ absurd (ok≢err BadSlots ((begun.1 (omega arith)).0 (λ q. other (q.0.ledger, q.1.0))).0)
-  ])
+  | inl some ↦ (
+    omega arith,
+    elim (has_slots before.ledger) [
+      | inl l ↦ elim (has_slots before.pending) [
+        | inl p ↦ (record { ledger = l.0; pending = p.0 }, (l.1, p.1))
+        | inr other ↦ absurd (ok≢err BadSlots ((begun.1 (omega arith)).0 (λ q. other (q.0.pending, q.1.1))).0)
+      ]
+      | inr other ↦ absurd (ok≢err BadSlots ((begun.1 (omega arith)).0 (λ q. other (q.0.ledger, q.1.0))).0)
+    ],
+  )
   | inr few ↦ absurd (ok≢err Empty (begun.0 (λ one. omega arith)).0)
 ]

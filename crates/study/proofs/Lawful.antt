@@ -142,13 +142,13 @@ module _ {T : Type 0} (answer : T → List Row → ℕ → List Bool → List �
         let sought = at.runs room runs in
         elim stepped [
           | none nothing ends ↦
-            let cover : (es : List ℕ) → Estimates rows es → Holding rows l n es = λ es est. elim (sought.cover es est) [ inl kept ↦ kept | inr waits ↦ absurd (omega (arith, waits.1, waits.2, nothing)) ] in
-            leaves_keeps before after _ _ _ _ _ ends (ended_none rows n m l p sought.barred cover (every_late laws t rows few n l sought.barred cover))
+              let cover : (es : List ℕ) → Estimates rows es → Holding rows l n es = λ es est. elim (sought.cover es est) [ inl kept ↦ kept | inr waits ↦ absurd (omega (arith, waits.1, waits.2, nothing)) ] in
+              leaves_keeps before after _ _ _ _ _ ends (ended_none rows n m l p sought.barred cover (every_late laws t rows few n l sought.barred cover))
           | keeps grown some closed grows left leaves ↦ leaves_keeps before after _ _ _ _ _ leaves (running rows room _ _ _ _ (sought_kept laws t rows few room n m l p sought some left grown closed grows))
           | full some closed lacks ends ↦ leaves_keeps before after _ _ _ _ _ ends (stopped rows n m l p sought.barred)
           | finds f some opens found ends ↦
-            let whole = slot_full p m some (omega (arith, sought.long_pending, sought.few_waiting)) in
-            leaves_keeps before after _ _ _ _ _ ends (ended_found rows f n m l p sought.barred (finding_holds laws t rows few _ f whole (sought.waiting m some (omega arith)) found))
+              let whole = slot_full p m some (omega (arith, sought.long_pending, sought.few_waiting)) in
+              leaves_keeps before after _ _ _ _ _ ends (ended_found rows f n m l p sought.barred (finding_holds laws t rows few _ f whole (sought.waiting m some (omega arith)) found))
           | splits u some opens closed grows left enough leaves ↦ leaves_keeps before after _ _ _ _ _ leaves (running rows room _ _ _ _ (sought_split laws t rows few room n m l p sought some left u closed grows enough))
           | stops u some opens closed grows lacks ends ↦ leaves_keeps before after _ _ _ _ _ ends (stopped rows n m l p sought.barred)
         ]

@@ -176,8 +176,8 @@ module _ {T : Type 0} {answer : T → List Row → ℕ → List Bool → List �
     waits_in e lies = elim (covered rows few (slot p m) u full_taken e lies (λ k names. (maximal_lows.contains k names).0)) [
       | inl inside ↦ inl (now_in answer t rows room n m l p sought some room_left u full_u barred_u e inside)
       | inr piece_k ↦
-        let at = place_of (slot p m) u (length rows) piece_k.0 u piece_k.1.0 piece_k.1.1 piece_k.2 in
-        inr (m + at.0, omega arith, omega (arith, at.1), subst (LiesIn rows e) (sym (at_pieces at.0 u at.1 ∙ at.2)) piece_k.3)
+          let at = place_of (slot p m) u (length rows) piece_k.0 u piece_k.1.0 piece_k.1.1 piece_k.2 in
+          inr (m + at.0, omega arith, omega (arith, at.1), subst (LiesIn rows e) (sym (at_pieces at.0 u at.1 ∙ at.2)) piece_k.3)
     ]
 
     pub sought_split : Sought answer t rows room (n + 1) (m - 1 + length ps) (put_slot l (n + 1) u) (put_slots p m ps)
@@ -190,8 +190,8 @@ module _ {T : Type 0} {answer : T → List Row → ℕ → List Bool → List �
       waiting = λ i low le. elim (cases_lt i m) [
         | inl before ↦ subst (IsSlot rows) (sym (before_pieces i low before)) (sought.waiting i low (omega arith))
         | inr past ↦
-          let on : m + (i - m) ≡ i = omega arith in
-          subst (λ j. IsSlot rows (slot (put_slots p m ps) j)) on (subst (IsSlot rows) (sym (at_pieces (i - m) u (omega arith))) (piece_is_slot (i - m) u (omega arith)))
+            let on : m + (i - m) ≡ i = omega arith in
+            subst (λ j. IsSlot rows (slot (put_slots p m ps) j)) on (subst (IsSlot rows) (sym (at_pieces (i - m) u (omega arith))) (piece_is_slot (i - m) u (omega arith)))
       ];
       cover = λ e est. elim (sought.cover e est) [
         | inl kept ↦ inl (still answer t rows room n m l p sought some room_left u full_u barred_u e kept)

@@ -56,7 +56,7 @@ module _ {T : Type 0} {answer : T → List Row → ℕ → List Bool → List �
       let lows = take (length rows) taken.lows in
       let admits = settles laws t rows (lows_of taken) few (Some f.order) finds.0 (lows_within rows taken slot.0) in
       let is : lows_of taken ≡ as_range lows =
-          ap (λ (xs : List ℕ). let r : Range = record { lows = xs; highs = xs } in r) (sym (lows_padded (length rows) taken.lows few full.lows slot.1)) in
+      ap (λ (xs : List ℕ). let r : Range = record { lows = xs; highs = xs } in r) (sym (lows_padded (length rows) taken.lows few full.lows slot.1)) in
       let passes : Passes answer t rows (as_range lows) order = subst (λ r. Passes answer t rows r order) is admits.1 in
       let holds = (related laws t rows few).below order lows admits.0 (lows_estimates rows taken few full slot.0) passes in
       (admits.0, (holds.0, holds.1))
@@ -65,9 +65,9 @@ module _ {T : Type 0} {answer : T → List Row → ℕ → List Bool → List �
   pub every_late : (n : ℕ) (l : List ℕ) → AllBarred answer t rows n l → ((es : List ℕ) → Estimates rows es → Holding rows l n es) → (order : List ℕ) → Order (length rows) order → HasLate answer t rows order
   every_late n l barred cover order o = elim ((related laws t rows few).either order o).0 [
     | inl holds ↦
-      let own = own_estimates laws t rows few order o holds in
-      let at = cover own.0 own.1 in
-      let bar = barred at.0 at.1 at.2 in
-      absurd (narrowing laws t rows few (slot l at.0) (as_range own.0) bar.within (estimates_within rows own.0 few own.1) at.3 bar.closed order (o, own.2))
+        let own = own_estimates laws t rows few order o holds in
+        let at = cover own.0 own.1 in
+        let bar = barred at.0 at.1 at.2 in
+        absurd (narrowing laws t rows few (slot l at.0) (as_range own.0) bar.within (estimates_within rows own.0 few own.1) at.3 bar.closed order (o, own.2))
     | inr late ↦ late
   ]

@@ -39,7 +39,7 @@ module _ (rows : List Row) (few : length rows ≤ 32) where
   whole_slot = (
     λ k names. (omega (arith, low_at k names), omega (arith, low_at k names, high_at k names, (row rows k).ok), omega (arith, high_at k names)),
     padded_past (length rows) (map (λ (r : Row). r.wcet) rows) (length-map rows _),
-    padded_past (length rows) (map (λ (r : Row). r.deadline) rows) (length-map rows _)
+    padded_past (length rows) (map (λ (r : Row). r.deadline) rows) (length-map rows _),
   )
 
   all_lie : (es : List ℕ) → Estimates rows es → LiesIn rows es (whole rows)

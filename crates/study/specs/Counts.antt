@@ -1,5 +1,6 @@
--- The counts of a study.
-use Rattle.std.specs.Prelude.{◌≡◌, ℕ, ◌+◌, ◌≤◌}
+-- The states of a study, and its counts.
+use Rattle.std.specs.Prelude.{◌≡◌, ℕ, ◌+◌, ◌≤◌, Some, None, Option}
+use Rattle.study.specs.declared.finding.Finding.{Finding}
 use Rattle.study.specs.declared.room.Room.{Room}
 use Rattle.study.specs.declared.state.State.{State}
 use Rattle.study.specs.declared.state.State.TheVariants as state
@@ -11,6 +12,14 @@ verdicts (state.Running room) = 0
 verdicts (state.Found finding) = 1
 verdicts state.None = 1
 verdicts state.Stopped = 1
+
+-- what was found, present exactly while the state is found
+abbrev pub finding_in : State → Option Finding
+finding_in state.Draft = None
+finding_in (state.Running room) = None
+finding_in (state.Found finding) = Some finding
+finding_in state.None = None
+finding_in state.Stopped = None
 
 -- how many slots of each list may be counted: none in a draft, those that the list has while a search runs, and up to 4,096 once there is a verdict
 abbrev pub ledger_slots : State → ℕ

@@ -2,6 +2,8 @@
 use crate::finding::Finding;
 use crate::room::Room;
 
+pub mod read;
+
 /// Found, none and stopped are the verdicts.
 #[derive(Clone, Copy, PartialEq, Eq, Debug)]
 pub enum State {

@@ -6,9 +6,12 @@ use table::row::Row;
 use table::rows::Table;
 
 pub mod begin;
+mod counts;
 pub mod edits;
+pub mod reads;
 pub mod search;
 pub mod step;
+mod work;
 
 #[derive(Drop)]
 pub struct Study {

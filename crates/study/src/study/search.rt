@@ -20,7 +20,12 @@ impl Study {
     }
 
     /// Begins a search, and steps until there is a verdict.
-    pub fn search<T: Test>(&mut self, test: &T, ledger: &mut [u32], pending: &mut [u32]) -> Result<(), Fault>
+    pub fn search<T: Test>(
+        &mut self,
+        test: &T,
+        ledger: &mut [u32],
+        pending: &mut [u32],
+    ) -> Result<(), Fault>
         ensures leads { Searches T.answer test.now (moment self.old ledger.old pending.old) result (moment self.new ledger.new pending.new) }
         ensures means { IfOk result (λ _. Means T.answer test.now (moment self.new ledger.new pending.new)) }
         ensures law { Law T.answer test.now }
