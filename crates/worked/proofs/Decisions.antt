@@ -1,5 +1,6 @@
 -- Which ranges of the worked searches are open and which closed, computed by the assigner.
 use Rattle.std.proofs.Common.{◌≡◌, ℕ, ◌≤◌, true, List, [], ◌∷◌, length, Some, None, refl, lit≤}
+use Rattle.std.proofs.Math.Nat.{zero-div}
 use Rattle.table.specs.declared.row.Row.{Row}
 use Rattle.table.specs.Places.{nth, put}
 use Rattle.bounds.specs.declared.rta.Rta.{Rta}
@@ -86,10 +87,10 @@ both_lows_closed = shut on_one pair (record { lows = both.lows; highs = both.low
 abbrev pub five : Range
 five = record { lows = padded (5 ∷ []); highs = padded (5 ∷ []) }
 
-pub lone_order : assigned response on_one lone five ≡ Some (1 ∷ [])
+pub lone_order : (t : Rta) → assigned response t lone five ≡ Some (1 ∷ [])
 unfolding nth put all_to sum_to least_from fill full
-lone_order = refl
+lone_order t = rw (zero-div t.processors.count) refl
 
-pub lone_open : Open response on_one lone five
+pub lone_open : (t : Rta) → Open response t lone five
 unfolding nth all_to
-lone_open = opens on_one lone five _ (lit≤ tt) refl lone_order
+lone_open t = opens t lone five _ (lit≤ tt) refl (lone_order t)

@@ -65,6 +65,7 @@ found_after_split before begun room r is has one three begins =
           ),
     )
 
+-- the range of the two rows grows to itself
 both_grown : GrownTo response on_one pair both 2 both
 unfolding nth put
 both_grown =
@@ -94,13 +95,13 @@ none_after_kept before begun room r is has one other begins =
     )
 
 pub found_at_once : FoundAtOnce
-found_at_once before begun room r is has one other begins =
-    let did = begun_on response on_one lone before begun room r (lit≤ tt) is has begins in
+found_at_once t before begun room r is has one other begins =
+    let did = begun_on response t lone before begun room r (lit≤ tt) is has begins in
     let own = did.1.0 in
     let on = did.1.3 in (
       did.0,
       λ r found steps.
-          let stepped = stepped_on response on_one own begun found r on.runs on.kept steps in
-          let finds = does_find response on_one lone own 0 1 five begun found on stepped.1 (lit≤ tt) lone_open lone_open _ lone_order in
+          let stepped = stepped_on response t own begun found r on.runs on.kept steps in
+          let finds = does_find response t lone own 0 1 five begun found on stepped.1 (lit≤ tt) (lone_open t) (lone_open t) _ (lone_order t) in
           (stepped.0, (finds.0, finds.1, finds.2, finds.4)),
     )

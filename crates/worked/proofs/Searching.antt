@@ -33,6 +33,7 @@ module _ {T : Type 0} (answer : T → List Row → ℕ → List Bool → List �
     pub taken_is : taken_of at ≡ taken
     pub kept : KeepsAt answer t at
 
+  -- begin is accepted, and a search runs on the range of all C to D
   pub begun_on : (rows : List Row) (before after : Moment) (room : Room) (r : Result (Unit {0}) Fault) → 1 ≤ length rows → rows_of before ≡ rows → HasRoom room before → Begins before r after
       → (r ≡ Ok tt) × ((own : Room) × (own.ledger ≡ room.ledger) × (own.pending ≡ room.pending) × On rows own 0 1 (whole rows) after)
   begun_on rows before after room r some is has begins =
@@ -56,6 +57,7 @@ module _ {T : Type 0} (answer : T → List Row → ℕ → List Bool → List �
         ),
       )
 
+  -- a step of a running search is accepted
   pub stepped_on : (room : Room) (at after : Moment) (r : Result (Unit {0}) Fault) → Runs room at → KeepsAt answer t at → Steps answer t at r after → (r ≡ Ok tt) × Stepped answer t room at after
   stepped_on room at after r runs kept steps =
       let on = steps.1 (room, runs) in

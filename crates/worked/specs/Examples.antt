@@ -67,10 +67,11 @@ Overheads =
 abbrev pub response : Rta → List Row → ℕ → List Bool → List ℕ → Option ℕ
 response t = rta t.processors.count
 
--- rta on 2 processors, and on 1
+-- rta on 2 processors
 abbrev pub on_two : Rta
 on_two = record { processors = record { count = 2; ok = (lit≤ tt, lit≤ tt) } }
 
+-- rta on 1 processor
 abbrev pub on_one : Rta
 on_one = record { processors = record { count = 1; ok = (lit≤ tt, lit≤ tt) } }
 
@@ -93,10 +94,11 @@ FoundAfterSplit =
     (λ split. KeepsOnly (ranged 4) split × (split.study.pending ≡ 3) × StepsTo response on_two split
     (λ found. (f : Finding) × (found.study.state ≡ state.Found f) × (take 3 f.order ≡ 2 ∷ (1 ∷ (3 ∷ []))) × (f.estimates ≡ padded (2 ∷ (2 ∷ (5 ∷ [])))))))
 
--- two rows 2/3/3
+-- a row 2/3/3
 abbrev pub tight : Row
 tight = record { wcet = 2; period = 3; deadline = 3; ok = (lit≤ tt, lit≤ tt, lit≤ tt, lit≤ tt) }
 
+-- two such rows
 abbrev pub pair : List Row
 pair = tight ∷ (tight ∷ [])
 
@@ -114,9 +116,9 @@ NoneAfterKept =
 abbrev pub lone : List Row
 lone = record { wcet = 5; period = 5; deadline = 5; ok = (lit≤ tt, lit≤ tt, lit≤ tt, lit≤ tt) } ∷ []
 
--- a search of the one row under rta on 1 processor: the first step finds its order, and no range is in the ledger
+-- a search of the one row under rta, on however many processors: the first step finds its order, and no range is in the ledger
 abbrev pub FoundAtOnce : Type 0
-FoundAtOnce = BeginsTo lone 1 1 (λ begun. StepsTo response on_one begun (λ found. (f : Finding) × (found.study.state ≡ state.Found f) × (take 1 f.order ≡ 1 ∷ []) × (found.study.ledger ≡ 0)))
+FoundAtOnce = (t : Rta) → BeginsTo lone 1 1 (λ begun. StepsTo response t begun (λ found. (f : Finding) × (found.study.state ≡ state.Found f) × (take 1 f.order ≡ 1 ∷ []) × (found.study.ledger ≡ 0)))
 
 -- all worked examples
 abbrev pub WorkedExamples : Type 0
