@@ -8,11 +8,13 @@ mod tests {
     use bounds::overhead::Overhead;
     use bounds::test::Test;
     use std::array;
+    use std::process::Abort;
     use std::test::Fail;
     use study::finding::Finding;
+    use study::room::Room;
     use study::state::State;
     use study::study::Study;
-    use table::fault::Fault;
+    use table::fault::{Fault, Layer, Place};
 
     // What stands in a lent list before anything is written there.
     const FOREIGN: u32 = 7;
@@ -646,6 +648,134 @@ mod tests {
             };
             assert_eq!(rt; see(&lent.study), draft);
             assert!(rt; lent.ledger == before.ledger && lent.pending == before.pending);
+        }
+        Ok(())
+    }
+
+    // Whether a call was refused so.
+    fn is_refused(
+        rt: &impl Abort,
+        refusal: Result<(), Fault>,
+        fault: Fault,
+        number: u32,
+        layer: Layer,
+    ) {
+        assert_eq!(rt; refusal, Err(fault));
+        assert_eq!(rt; fault.number(), number);
+        assert_eq!(rt; fault.layer(), layer);
+        assert_eq!(rt; fault.place(), Place::NOWHERE);
+    }
+
+    #[test]
+    fn refuses_edits_in_every_state(rt: HostRuntime) -> Result<(), Fail> {
+        let bad_row = Fault::BadRow(Place::NOWHERE);
+        for lent in in_each_state()? {
+            let mut lent = lent;
+            let before = lent.all();
+            let rows = lent.study.table().len();
+            is_refused(&rt, lent.study.add(0, 5, 5), bad_row, 11, Layer::Table);
+            is_refused(&rt, lent.study.alter(1, 3, 5, 2), bad_row, 11, Layer::Table);
+            is_refused(
+                &rt,
+                lent.study.alter(0, 1, 1, 1),
+                Fault::NoRow,
+                10,
+                Layer::Table,
+            );
+            is_refused(
+                &rt,
+                lent.study.remove(rows + 1),
+                Fault::NoRow,
+                10,
+                Layer::Table,
+            );
+            assert!(rt; lent.all() == before);
+        }
+        let mut full = lend(&[(1, 1, 1); 32])?;
+        full.study.begin(&mut full.ledger, &mut full.pending)?;
+        let before = full.all();
+        is_refused(&rt, full.study.add(1, 1, 1), Fault::Full, 9, Layer::Table);
+        assert!(rt; full.all() == before);
+        Ok(())
+    }
+
+    #[test]
+    fn begins_in_every_state(rt: HostRuntime) -> Result<(), Fail> {
+        for lent in in_each_state()? {
+            let mut lent = lent;
+            let before = lent.all();
+            lent.study.begin(&mut lent.ledger, &mut lent.pending)?;
+            let seen = see(&lent.study);
+            assert_eq!(rt;
+                seen.state,
+                State::Running(Room {
+                    ledger: 8,
+                    pending: 8
+                })
+            );
+            assert_eq!(rt; (seen.ledger, seen.pending, seen.steps), (0, 1, 0));
+            assert_eq!(rt; seen.rows, before.seen.rows);
+            assert!(rt; lent.ledger == before.ledger);
+            for place in 0..512 {
+                let row = before.seen.rows.get(place % 64 % 32).copied().flatten();
+                let wanted = match row {
+                    _ if place >= 64 => before.pending[place],
+                    None => 0,
+                    Some((wcet, _, _)) if place < 32 => wcet,
+                    Some((_, _, deadline)) => deadline,
+                };
+                assert_eq!(rt; lent.pending[place], wanted);
+            }
+        }
+        Ok(())
+    }
+
+    #[test]
+    fn refuses_begin(rt: HostRuntime) -> Result<(), Fail> {
+        let mut empty = lend(&[])?;
+        let before = empty.all();
+        let begun = empty.study.begin(&mut empty.ledger, &mut empty.pending);
+        is_refused(&rt, begun, Fault::Empty, 13, Layer::Study);
+        assert!(rt; empty.all() == before);
+        Ok(())
+    }
+
+    // One slot more than a list may have.
+    const LONG: usize = 262_208;
+
+    #[test]
+    fn refuses_lists_of_other_lengths(rt: HostRuntime) -> Result<(), Fail> {
+        let mut study = study_of(&WORKED)?;
+        let mut long = [FOREIGN; LONG];
+        let mut short = [FOREIGN; 64];
+        let before = see(&study);
+        for length in [0, 63, 65, 262_145, 262_208] {
+            let part = &mut long[..length.min(LONG)];
+            let begun = study.begin(part, &mut short);
+            is_refused(&rt, begun, Fault::BadSlots, 14, Layer::Study);
+            let begun = study.begin(&mut short, part);
+            is_refused(&rt, begun, Fault::BadSlots, 14, Layer::Study);
+        }
+        assert_eq!(rt; see(&study), before);
+        assert!(rt; long.iter().all(|&number| number == FOREIGN));
+        assert!(rt; short.iter().all(|&number| number == FOREIGN));
+        Ok(())
+    }
+
+    #[test]
+    fn begins_on_lists_of_each_length(rt: HostRuntime) -> Result<(), Fail> {
+        let mut study = study_of(&WORKED)?;
+        let mut long = [FOREIGN; LONG];
+        let mut short = [FOREIGN; 64];
+        for length in [64, 262_144] {
+            let part = &mut long[..length.min(LONG)];
+            study.begin(&mut short, part)?;
+            study.begin(part, &mut short)?;
+            let room = Room {
+                ledger: length / 64,
+                pending: 1,
+            };
+            assert_eq!(rt; study.state(), State::Running(room));
         }
         Ok(())
     }
