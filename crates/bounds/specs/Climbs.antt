@@ -1,5 +1,5 @@
 -- The climb to the least window that fits: what its parts give. How the code gets there; the tests are pinned in Responses.
-use Rattle.std.specs.Prelude.{◌≡◌, ℕ, ◌+◌, ◌-◌, ◌*◌, ◌/◌, ◌<◌, ◌≤◌, min, max, Bool, false, cond, ltb, List, Some, None, Option, MatchOption, nat_lt, slice_index, slice_index_or}
+use Rattle.std.specs.Prelude.{◌≡◌, ℕ, ◌+◌, ◌-◌, ◌*◌, ◌<◌, ◌≤◌, min, Bool, false, cond, ltb, List, Some, None, Option, MatchOption, nat_lt, slice_index, slice_index_or}
 use Rattle.table.specs.declared.row.Row.{Row}
 use Rattle.table.specs.Places.{nth}
 use Rattle.table.specs.Rows.{row}
@@ -73,11 +73,3 @@ NoneDo held m y z = (x : ℕ) → y ≤ x → x < z → m * x ≤ held_to held 3
 -- a tally of 32 loads at a cap of at most 1,000,000
 abbrev pub Limited : Tally → Type 0
 Limited t = (t.sum ≤ 32000000) × (t.least ≤ 2000000) × (t.rest ≤ 32000000)
-
--- a cap below which none can do, by the loads above the cap and the rest
-abbrev pub jump : Tally → ℕ → ℕ
-jump t m = cond (nat_lt t.over m) (min (t.rest / (m - t.over) + 1) (t.least + 1)) (t.least + 1)
-
--- the next cap to try on m processors
-abbrev pub next_cap : Tally → ℕ → ℕ
-next_cap t m = max (t.sum / m + 1) (jump t m)
