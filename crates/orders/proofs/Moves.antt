@@ -11,7 +11,7 @@ use Rattle.orders.specs.declared.range.Range.{Range}
 use Rattle.orders.specs.declared.end.End.{End}
 use Rattle.orders.specs.declared.end.End.TheVariants.{Low, High}
 use Rattle.orders.specs.Ranges.{low, high, Within, Contains}
-use Rattle.orders.specs.Growth.{with_low, with_high, moved, span}
+use Rattle.orders.specs.Growth.{with_low, with_high, moved, reach}
 use Rattle.orders.proofs.Puts.{put_same, put_twice}
 
 -- a number above 0 stands in the list
@@ -25,6 +25,10 @@ stands xs k a h =
 module _ (rows : List Row) (r : Range) (within : Within rows r) (k : ℕ) (names : Names rows k) where
   abbrev w : ((row rows k).wcet ≤ low r k) × (low r k ≤ high r k) × (high r k ≤ (row rows k).deadline)
   w = within k names
+
+  pub reach_short : (end : End) → reach end rows r k < 1000000
+  reach_short Low = omega (arith, w.0, w.1, w.2, (row rows k).ok)
+  reach_short High = omega (arith, w.0, w.1, w.2, (row rows k).ok)
 
   pub low_here : (v : ℕ) → low (with_low r k v) k ≡ v
   low_here v = nth_put_same r.lows k v 0 names.0 (stands r.lows k names.0 (omega (arith, w.0, (row rows k).ok)))
@@ -82,20 +86,20 @@ module _ {shown rows : List Row} (same : shown ≡ rows) {place : ℕ} {one : Ro
   read : row rows (place + 1) ≡ one
   read = row_read rows place one inside (subst (λ xs. one ≡ get_or xs place one) same is)
 
-  pub room_low : (one.wcet ≤ get_or r.lows place 0) × (get_or r.lows place 0 - one.wcet ≡ span Low rows r (place + 1))
+  pub room_low : (one.wcet ≤ get_or r.lows place 0) × (get_or r.lows place 0 - one.wcet ≡ reach Low rows r (place + 1))
   room_low =
       let wcet = ap (λ (q : Row). q.wcet) read in
       let w = within (place + 1) (omega arith, omega arith) in
       (omega (arith, nth_next r.lows place 0, w.0), omega (arith, nth_next r.lows place 0))
 
-  pub room_high : (get_or r.highs place 0 ≤ one.deadline) × (one.deadline - get_or r.highs place 0 ≡ span High rows r (place + 1))
+  pub room_high : (get_or r.highs place 0 ≤ one.deadline) × (one.deadline - get_or r.highs place 0 ≡ reach High rows r (place + 1))
   room_high =
       let deadline = ap (λ (q : Row). q.deadline) read in
       let w = within (place + 1) (omega arith, omega arith) in
       (omega (arith, nth_next r.highs place 0, w.2), omega (arith, nth_next r.highs place 0))
 
 -- the same for either end
-pub moved_within : (rows : List Row) (r : Range) → Within rows r → (k : ℕ) → Names rows k → (end : End) (by : ℕ) → by ≤ span end rows r k → Within rows (moved end r k by)
+pub moved_within : (rows : List Row) (r : Range) → Within rows r → (k : ℕ) → Names rows k → (end : End) (by : ℕ) → by ≤ reach end rows r k → Within rows (moved end r k by)
 moved_within rows r within k names Low by h = within_low rows r within k names (low r k - by) (omega (arith, (within k names).0)) (omega arith)
 moved_within rows r within k names High by h = within_high rows r within k names (high r k + by) (omega arith) (omega (arith, (within k names).2))
 
@@ -118,6 +122,6 @@ module _ (rows : List Row) (r : Range) (within : Within rows r) (k : ℕ) (names
       ap (with_high (with_high r k (high r k + a)) k) (omega (arith, high_here rows r within k names (high r k + a)))
       ∙ ap (λ xs. record { lows = r.lows; highs = xs }) (put_twice r.highs k (high r k + a) (high r k + (a + b)) names.0)
 
-  pub span_moved : (end : End) (a : ℕ) → span end rows (moved end r k a) k ≡ span end rows r k - a
-  span_moved Low a = omega (arith, low_here rows r within k names (low r k - a))
-  span_moved High a = omega (arith, high_here rows r within k names (high r k + a))
+  pub reach_moved : (end : End) (a : ℕ) → reach end rows (moved end r k a) k ≡ reach end rows r k - a
+  reach_moved Low a = omega (arith, low_here rows r within k names (low r k - a))
+  reach_moved High a = omega (arith, high_here rows r within k names (high r k + a))

@@ -9,7 +9,6 @@ use Rattle.bounds.specs.ResponseLoads.{rta_laws}
 use Rattle.orders.specs.Assigner.{fill, full}
 use Rattle.orders.specs.Ranges.{Open, Closed}
 use Rattle.orders.proofs.Audsley.{decided}
-use Rattle.orders.proofs.Withins.{within_from}
 use Rattle.worked.specs.Examples.{tasks, on_two, ranged, Work, DeadlineAnalysis, ResponseAnalysis, LimitedAnalysis, Overheads, WorkedExamples}
 
 work : Work
@@ -33,11 +32,11 @@ overheads = (refl, refl, refl, refl)
 
 closed : Closed (λ (t : Rta). rta t.processors.count) on_two tasks (ranged 4)
 unfolding nth put all_to sum_to least_from fill full
-closed = decided rta_laws on_two tasks (ranged 4) (lit≤ tt) (within_from tasks (ranged 4) refl) None refl
+closed = decided rta_laws on_two tasks (ranged 4) (lit≤ tt) None refl
 
 opened : Open (λ (t : Rta). rta t.processors.count) on_two tasks (ranged 5)
 unfolding nth put all_to sum_to least_from fill full
-opened = (2 ∷ (1 ∷ (3 ∷ [])), decided rta_laws on_two tasks (ranged 5) (lit≤ tt) (within_from tasks (ranged 5) refl) (Some (2 ∷ (1 ∷ (3 ∷ [])))) refl)
+opened = (2 ∷ (1 ∷ (3 ∷ [])), decided rta_laws on_two tasks (ranged 5) (lit≤ tt) (Some (2 ∷ (1 ∷ (3 ∷ [])))) refl)
 
 pub shown : WorkedExamples
 shown = (work, deadline_analysis, response_analysis, limited_analysis, overheads, (closed, opened))
