@@ -5,9 +5,9 @@ use Rattle.table.specs.Places.{nth}
 use Rattle.table.specs.Rows.{row}
 use Rattle.bounds.specs.declared.posed.Posed.{Posed}
 use Rattle.bounds.specs.declared.tally.Tally.{Tally}
-use Rattle.bounds.specs.Questions.{In, soundb}
+use Rattle.bounds.specs.Questions.{In}
 use Rattle.bounds.specs.Loads.{work, cap_of, sum_to, total_of, sum_over}
-use Rattle.bounds.specs.Responses.{least_fit, carried_loads, limited_load}
+use Rattle.bounds.specs.Responses.{answer_by, carried_loads, limited_load}
 
 -- the load in each window: at most so many tasks carry load in, or all do
 abbrev pub loads : Option ℕ → List Row → ℕ → List Bool → List ℕ → ℕ → ℕ
@@ -18,9 +18,9 @@ loads (Some c) = limited_load c
 abbrev pub load_of : Option ℕ → Posed → ℕ → ℕ
 load_of limit q = loads limit q.rows.now q.task q.above.now q.estimates.now
 
--- the answer of a test that climbs, by that load
+-- the answer of a test that climbs
 abbrev pub climbs : ℕ → Option ℕ → List Row → ℕ → List Bool → List ℕ → Option ℕ
-climbs m limit rows i above estimates = cond (soundb rows i above estimates) (least_fit m (row rows i) (loads limit rows i above estimates)) None
+climbs m limit = answer_by m (loads limit)
 
 -- a list has f of each number from 1 to 32 in its place
 abbrev pub Lists : (ℕ → ℕ) → List ℕ → Type 0
