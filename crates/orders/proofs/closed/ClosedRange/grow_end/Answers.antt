@@ -35,11 +35,11 @@ loop-round-preserved g c =
       | in-Some w ↦
           let made = w.in-Some.ensures.some in
           let out = out_more g.met.T.Test.kept s.test.now rows (few_rows s.table.now) c.args.end s.range s.within c.args.place c.requires c.loop-round.room step q w.in-Some.wider.range c.loop-round.invariant.2 (omega (arith, c.div_ceil-step.ensures)) (made.2 ∙ c.moved-wider.ensures) in
-          rw (w.grown-is, w.room-is) (made.0 ∙ c.loop-round.invariant.0, made.1 ∙ c.loop-round.invariant.1, out, less _ c.loop-round-test.true c.loop-round.invariant.3 (omega (arith, c.div_ceil-step.ensures)))
+          rw (w.grown-is, w.room-is) (made.0 ∙ c.loop-round.invariant.0, made.1 ∙ c.loop-round.invariant.1, out, less _ (omega (arith, c.loop-round-test.true)) c.loop-round.invariant.3 (omega (arith, c.div_ceil-step.ensures)))
       | in-None w ↦
           let opened : Within rows wider → Closed g.T.Test.answer s.test.now rows wider → ⊥ = rw (c.moved-wider.ensures, c.loop-round.invariant.0, c.loop-round.invariant.1) at w.in-None.ensures.none in
           let out = out_less g.met.T.Test.kept s.test.now rows (few_rows s.table.now) c.args.end s.range s.within c.args.place c.requires c.loop-round.room step q c.loop-round.invariant.2 (omega (arith, c.div_ceil-step.ensures)) (omega (arith, c.div_ceil-step.ensures)) opened in
-          rw (w.grown-is, w.room-is) (c.loop-round.invariant.0, c.loop-round.invariant.1, out, less _ c.loop-round-test.true c.loop-round.invariant.3 (omega (arith, c.div_ceil-step.ensures)))
+          rw (w.grown-is, w.room-is) (c.loop-round.invariant.0, c.loop-round.invariant.1, out, less _ (omega (arith, c.loop-round-test.true)) c.loop-round.invariant.3 (omega (arith, c.div_ceil-step.ensures)))
     ]
 
 pub returns-then-room-eq0-clause-grown : goal.returns-then-room-eq0-clause-grown
