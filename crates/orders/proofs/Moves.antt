@@ -3,7 +3,7 @@ use Rattle.std.proofs.Common.{◌≡◌, ℕ, ◌+◌, ◌-◌, ◌<◌, ◌≤�
 use Rattle.std.proofs.lemmas.List.{get_or_past}
 use Rattle.std.proofs.lemmas.Bool.{cases_eq, cases_lt}
 use Rattle.table.specs.declared.row.Row.{Row}
-use Rattle.table.specs.Places.{nth, put}
+use Rattle.table.specs.Places.{nth}
 use Rattle.table.specs.Rows.{row, Names}
 use Rattle.table.proofs.Placed.{nth_at, nth_next, nth_put_same, nth_put_other}
 use Rattle.bounds.specs.Sounds.{row_read}
@@ -21,6 +21,13 @@ stands xs k a h =
       | inl past ↦ absurd (omega (arith, nth_at xs k 0 a, get_or_past xs (k - 1) 0 (omega arith)))
       | inr in' ↦ in'
     ]
+
+-- with the end that it has, a range is itself
+low_same : (r : Range) (k : ℕ) → 1 ≤ k → with_low r k (low r k) ≡ r
+low_same r k h = ap (λ xs. record { lows = xs; highs = r.highs }) (put_same r.lows k 0 h)
+
+high_same : (r : Range) (k : ℕ) → 1 ≤ k → with_high r k (high r k) ≡ r
+high_same r k h = ap (λ xs. record { lows = r.lows; highs = xs }) (put_same r.highs k 0 h)
 
 module _ (rows : List Row) (r : Range) (within : Within rows r) (k : ℕ) (names : Names rows k) where
   abbrev w : ((row rows k).wcet ≤ low r k) × (low r k ≤ high r k) × (high r k ≤ (row rows k).deadline)
@@ -68,18 +75,10 @@ module _ (rows : List Row) (r : Range) (within : Within rows r) (k : ℕ) (names
 
   -- a range with an end moved out contains the range
   pub contains_by_low : (v : ℕ) → v ≤ low r k → Contains rows (with_low r k v) r
-  contains_by_low v h j names' =
-      elim (cases_eq j k) [
-        | inl e ↦ (omega (arith, ap (λ i. low (with_low r k v) i) e ∙ low_here v, ap (low r) e), omega arith)
-        | inr d ↦ (omega (arith, nth_put_other r.lows k j v 0 d), omega arith)
-      ]
+  contains_by_low v h = subst (Contains rows (with_low r k v)) (low_same r k names.0) (contains_low (low r k) v h)
 
   pub contains_by_high : (v : ℕ) → high r k ≤ v → Contains rows (with_high r k v) r
-  contains_by_high v h j names' =
-      elim (cases_eq j k) [
-        | inl e ↦ (omega arith, omega (arith, ap (λ i. high (with_high r k v) i) e ∙ high_here v, ap (high r) e))
-        | inr d ↦ (omega arith, omega (arith, nth_put_other r.highs k j v 0 d))
-      ]
+  contains_by_high v h = subst (Contains rows (with_high r k v)) (high_same r k names.0) (contains_high (high r k) v h)
 
 -- what the code reads of a row and of its low or high
 module _ {shown rows : List Row} (same : shown ≡ rows) {place : ℕ} {one : Row} (is : one ≡ get_or shown place one) (r : Range) (within : Within rows r) (inside : place < length rows) where
@@ -109,8 +108,8 @@ moved_contains rows r within k names High a b h = contains_high rows r within k 
 
 -- not moved at all
 pub moved_none : (end : End) (r : Range) (k : ℕ) → 1 ≤ k → moved end r k 0 ≡ r
-moved_none Low r k low = ap (λ xs. record { lows = xs; highs = r.highs }) (ap (put r.lows k) (omega arith) ∙ put_same r.lows k 0 low)
-moved_none High r k low = ap (λ xs. record { lows = r.lows; highs = xs }) (ap (put r.highs k) (omega arith) ∙ put_same r.highs k 0 low)
+moved_none Low r k low = ap (with_low r k) (omega arith) ∙ low_same r k low
+moved_none High r k low = ap (with_high r k) (omega arith) ∙ high_same r k low
 
 -- moved twice
 module _ (rows : List Row) (r : Range) (within : Within rows r) (k : ℕ) (names : Names rows k) where
