@@ -14,7 +14,7 @@ abbrev pub loads : Option ℕ → List Row → ℕ → List Bool → List ℕ �
 loads None = carried_loads
 loads (Some c) = limited_load c
 
--- the same, of a posed question
+-- the load in each window of a posed question
 abbrev pub load_of : Option ℕ → Posed → ℕ → ℕ
 load_of limit q = loads limit q.rows.now q.task q.above.now q.estimates.now
 

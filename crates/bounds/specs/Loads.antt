@@ -30,7 +30,7 @@ sum_to f (suc n) = sum_to f n + f (suc n)
 abbrev pub total_of : (ℕ → Bool) → (ℕ → ℕ) → ℕ → ℕ
 total_of chosen f n = sum_to (λ k. cond (chosen k) (f k) 0) n
 
--- the same over the tasks of a set
+-- the total of f over the tasks of a set, among the rows 1 to n
 abbrev pub sum_over : List Bool → (ℕ → ℕ) → ℕ → ℕ
 sum_over set f n = total_of (λ k. nth set k false) f n
 

@@ -47,6 +47,6 @@ module _ {T : Type 0} (answer : T → List Row → ℕ → List Bool → List �
   abbrev pub Open : Range → Type 0
   Open r = (order : List ℕ) × Admits r order
 
-  -- and closed if it admits none
+  -- a range is closed if it admits none
   abbrev pub Closed : Range → Type 0
   Closed r = (order : List ℕ) → Admits r order → ⊥
