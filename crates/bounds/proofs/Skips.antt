@@ -1,5 +1,5 @@
 -- The climb skips no window that fits.
-use Rattle.std.proofs.Common.{◌≡◌, ℕ, ◌+◌, ◌-◌, ◌*◌, ◌/◌, ◌<◌, ◌≤◌, min, Bool, true, false, cond, ltb, leb, List, Some, None, sym, ap, ◌∙◌, subst, inl, inr, mul-le-mul_right, mul_comm, add-mul, div-mul-le_self, arith}
+use Rattle.std.proofs.Common.{◌≡◌, ℕ, ◌+◌, ◌-◌, ◌*◌, ◌/◌, ◌<◌, ◌≤◌, min, max, Bool, true, false, cond, ltb, leb, List, Some, None, sym, ap, ◌∙◌, subst, inl, inr, mul-le-mul_right, mul_comm, add-mul, div-mul-le_self, arith}
 use Rattle.std.proofs.lemmas.Nat.{div_below, le-div}
 use Rattle.std.proofs.lemmas.Bool.{cases_Bool, cases_lt, cond-true, cond-false, ltb-true, ltb-false, le-leb, lt-leb}
 use Rattle.table.specs.declared.row.Row.{Row}
@@ -7,13 +7,25 @@ use Rattle.table.specs.Places.{nth}
 use Rattle.bounds.specs.declared.tally.Tally.{Tally}
 use Rattle.bounds.specs.Loads.{cap_of}
 use Rattle.bounds.specs.Responses.{least_fit}
-use Rattle.bounds.specs.Climbs.{held_to, Held, Tallied, jump, next_cap}
+use Rattle.bounds.specs.Climbs.{held_to, Held, Tallied, NoneDo}
 use Rattle.bounds.specs.Leasts.{least_found, least_missing}
 use Rattle.bounds.specs.Sums.{sum_mono, sum_add, total_constant}
 
 -- y' ≤ x / d says d · y' ≤ x
 below_div : (x d y : ℕ) → y ≤ x / d → d * y ≤ x
 below_div x d y h = omega (arith, mul-le-mul_right {m = y} {n = x / d} d h, div-mul-le_self x d, mul_comm d y)
+
+-- a cap below which none can do, by the loads above the cap and the rest
+abbrev jump : Tally → ℕ → ℕ
+jump t m = cond (ltb t.over m) (min (t.rest / (m - t.over) + 1) (t.least + 1)) (t.least + 1)
+
+-- the next cap to try on m processors
+abbrev pub next_cap : Tally → ℕ → ℕ
+next_cap t m = max (t.sum / m + 1) (jump t m)
+
+-- it is above each cap that the sum alone rules out
+pub next_rises : (t : Tally) (m y : ℕ) → 0 < m → m * y ≤ t.sum → y < next_cap t m
+next_rises t m y pos h = omega (arith, le-div y t.sum m pos (omega (arith, mul_comm y m)))
 
 module _ (held : List ℕ) (y : ℕ) (t : Tally) (tallied : Tallied held 32 y t) where
   abbrev big : ℕ → Bool
@@ -78,11 +90,11 @@ module _ (m : ℕ) (pos : 0 < m) (i : Row) (load : ℕ → ℕ) (y : ℕ) (from 
   pub passed_all : cap_of i i.deadline < y → least_fit m i load ≡ None
   passed_all past = least_missing _ i.wcet (i.deadline - i.wcet + 1) (λ l low high. passed l low (omega (arith, i.ok)))
 
-  pub passed_more : (held : List ℕ) (t : Tally) → Held load i (i.wcet + y - 1) held → Tallied held 32 y t → Passed m i load (next_cap t m)
-  passed_more held t holds tallied l low high =
+  pub passed_more : (held : List ℕ) (z : ℕ) → Held load i (i.wcet + y - 1) held → NoneDo held m y z → Passed m i load z
+  passed_more held z holds none l low high =
       elim (cases_lt (cap_of i l) y) [
         | inl before ↦ passed l low before
-        | inr after ↦ misses_above m pos i load l low (omega (arith, skips held y t tallied m (cap_of i l) pos after high, holds.later l (omega arith)))
+        | inr after ↦ misses_above m pos i load l low (omega (arith, none (cap_of i l) after high, holds.later l (omega arith)))
       ]
 
   -- what a turn of the climb shows, by the wcet that was read
@@ -97,5 +109,5 @@ module _ (m : ℕ) (pos : 0 < m) (i : Row) (load : ℕ → ℕ) (y : ℕ) (from 
         let sum : load l ≡ t.sum = sym holds_here.here ∙ ap (held_to held 32) cap ∙ sym tallied.sum in
         ap (λ w. Some (w + y - 1)) we ∙ sym (climbed in' (omega (arith, sum, h)))
 
-    pub turn_passed : Passed m i load (next_cap t m)
-    turn_passed = passed_more held t holds_here tallied
+    pub turn_passed : (z : ℕ) → NoneDo held m y z → Passed m i load z
+    turn_passed z none = passed_more held z holds_here none

@@ -9,7 +9,7 @@ use Rattle.std.specs.List.{list_all, range_with_len}
 use Rattle.table.specs.declared.row.Row.{Row}
 use Rattle.table.specs.Places.{nth}
 use Rattle.table.specs.Rows.{Names}
-use Rattle.bounds.specs.Questions.{all_to, fitsb, soundb}
+use Rattle.bounds.specs.Questions.{all_to, sound_atb, soundb}
 use Rattle.bounds.specs.Sounds.{sound_computed}
 
 -- what holds of each of the first n elements of a list, by number
@@ -31,9 +31,9 @@ all_places p n =
     ∙ all_to_list (λ j. p (j + 1)) p places 0 n (omega arith) (λ i l. ap p (omega (arith, get_or-range_with_len 0 n i 0 l)))
 
 -- a question of a task that is in the table and not above itself is as sound as its places
-pub sound_by_places : (rows : List Row) (i : ℕ) (s : List Bool) (e : List ℕ) → length rows ≤ 32 → Names rows i → get_or s (i - 1) false ≡ false → all_to (fitsb rows s e) 32 ≡ soundb rows i s e
+pub sound_by_places : (rows : List Row) (i : ℕ) (s : List Bool) (e : List ℕ) → length rows ≤ 32 → Names rows i → get_or s (i - 1) false ≡ false → all_to (sound_atb rows s e) 32 ≡ soundb rows i s e
 sound_by_places rows i s e few named own =
-    let all = all_to (fitsb rows s e) 32 in
+    let all = all_to (sound_atb rows s e) 32 in
     elim (cases_Bool all) [
       | inl y ↦ y ∙ sym (sound_computed rows i s e few named.0 named.1 own y)
       | inr z ↦ z ∙ sym (and_right (nat_le (length rows) 32) _ (and_right (nat_le 1 i) _ (and_right (nat_le i (length rows)) _ (and_right (not (nth s i false)) all z))))

@@ -1,26 +1,26 @@
 -- The climb to the least window that fits: what its parts give. How the code gets there; the tests are pinned in Responses.
-use Rattle.std.specs.Prelude.{◌≡◌, ℕ, ◌+◌, ◌-◌, ◌*◌, ◌/◌, ◌<◌, ◌≤◌, min, max, Bool, false, cond, ltb, List, Some, None, Option, MatchOption, nat_lt, slice_index, slice_index_or}
+use Rattle.std.specs.Prelude.{◌≡◌, ℕ, ◌+◌, ◌-◌, ◌*◌, ◌<◌, ◌≤◌, min, Bool, false, cond, ltb, List, Some, None, Option, MatchOption, nat_lt, slice_index, slice_index_or}
 use Rattle.table.specs.declared.row.Row.{Row}
 use Rattle.table.specs.Places.{nth}
 use Rattle.table.specs.Rows.{row}
 use Rattle.bounds.specs.declared.posed.Posed.{Posed}
 use Rattle.bounds.specs.declared.tally.Tally.{Tally}
-use Rattle.bounds.specs.Questions.{In, soundb}
+use Rattle.bounds.specs.Questions.{In}
 use Rattle.bounds.specs.Loads.{work, cap_of, sum_to, total_of, sum_over}
-use Rattle.bounds.specs.Responses.{least_fit, carried_loads, limited_load}
+use Rattle.bounds.specs.Responses.{answer_by, carried_loads, limited_load}
 
 -- the load in each window: at most so many tasks carry load in, or all do
 abbrev pub loads : Option ℕ → List Row → ℕ → List Bool → List ℕ → ℕ → ℕ
 loads None = carried_loads
 loads (Some c) = limited_load c
 
--- the same, of a posed question
+-- the load in each window of a posed question
 abbrev pub load_of : Option ℕ → Posed → ℕ → ℕ
 load_of limit q = loads limit q.rows.now q.task q.above.now q.estimates.now
 
--- the answer of a test that climbs, by that load
+-- the answer of a test that climbs
 abbrev pub climbs : ℕ → Option ℕ → List Row → ℕ → List Bool → List ℕ → Option ℕ
-climbs m limit rows i above estimates = cond (soundb rows i above estimates) (least_fit m (row rows i) (loads limit rows i above estimates)) None
+climbs m limit = answer_by m (loads limit)
 
 -- a list has f of each number from 1 to 32 in its place
 abbrev pub Lists : (ℕ → ℕ) → List ℕ → Type 0
@@ -73,11 +73,3 @@ NoneDo held m y z = (x : ℕ) → y ≤ x → x < z → m * x ≤ held_to held 3
 -- a tally of 32 loads at a cap of at most 1,000,000
 abbrev pub Limited : Tally → Type 0
 Limited t = (t.sum ≤ 32000000) × (t.least ≤ 2000000) × (t.rest ≤ 32000000)
-
--- a cap below which none can do, by the loads above the cap and the rest
-abbrev pub jump : Tally → ℕ → ℕ
-jump t m = cond (nat_lt t.over m) (min (t.rest / (m - t.over) + 1) (t.least + 1)) (t.least + 1)
-
--- the next cap to try on m processors
-abbrev pub next_cap : Tally → ℕ → ℕ
-next_cap t m = max (t.sum / m + 1) (jump t m)

@@ -3,7 +3,7 @@ use Rattle.std.specs.Prelude.{◌≡◌, ℕ, ◌≤◌, Bool, true, false, cond
 use Rattle.std.proofs.Common.{ap, subst, inl, inr, arith}
 use Rattle.std.proofs.lemmas.Bool.{cases_Bool, cond-true, cond-false, leb-true, le-leb}
 use Rattle.std.proofs.lemmas.Option.{none-some, cond_some}
-use Rattle.bounds.specs.Questions.{NoMore, capped}
+use Rattle.bounds.specs.Questions.{NoMore, timely}
 
 -- what is given only where a test holds
 pub given_when : {A : Type 0} (test : Bool) (a : Option A) (x : A) → cond test a None ≡ Some x → (test ≡ true) × (a ≡ Some x)
@@ -37,12 +37,12 @@ pub no_more_late : (a : Option ℕ) → NoMore a None
 no_more_late None = tt
 no_more_late (Some x) = tt
 
-pub capped_mono : (d a b : ℕ) → a ≤ b → NoMore (capped d a) (capped d b)
-capped_mono d a b h =
+pub timely_mono : (d a b : ℕ) → a ≤ b → NoMore (timely d a) (timely d b)
+timely_mono d a b h =
     elim (cases_Bool (nat_le b d)) [
       | inl y ↦ let l = leb-true b d y in rw (cond-true (nat_le a d) (Some a) None (le-leb a d (omega arith)), cond-true (nat_le b d) (Some b) None y) h
-      | inr z ↦ rw (cond-false (nat_le b d) (Some b) None z) (no_more_late (capped d a))
+      | inr z ↦ rw (cond-false (nat_le b d) (Some b) None z) (no_more_late (timely d a))
     ]
 
-pub capped_some : (d a b : ℕ) → capped d a ≡ Some b → (a ≡ b) × (b ≤ d)
-capped_some d a b is = let fits = cond_some (nat_le a d) a b is in (fits.1, omega (arith, leb-true a d fits.0, fits.1))
+pub timely_some : (d a b : ℕ) → timely d a ≡ Some b → (a ≡ b) × (b ≤ d)
+timely_some d a b is = let given = cond_some (nat_le a d) a b is in (given.1, omega (arith, leb-true a d given.0, given.1))

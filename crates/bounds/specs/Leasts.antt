@@ -104,6 +104,7 @@ module _ (m : ℕ) (i : Row) (load : ℕ → ℕ) where
 -- A test whose answer is the least window that fits its load keeps the laws, if more tasks above and greater estimates of them never give less load.
 module _ {T : Type 0} (m : T → ℕ) (pos : (t : T) → 0 < m t) (load : T → List Row → ℕ → List Bool → List ℕ → ℕ → ℕ)
     (mono : (t : T) (rows : List Row) (i : ℕ) (s u : List Bool) (e f : List ℕ) → ((k : ℕ) → In s k → In u k) → ((k : ℕ) → Names rows k → In s k → nth e k 0 ≤ nth f k 0) → (l : ℕ) → load t rows i s e l ≤ load t rows i u f l) where
+  -- the least window that fits the load of a question
   abbrev fit : T → List Row → ℕ → List Bool → List ℕ → Option ℕ
   fit t rows i s e = least_fit (m t) (row rows i) (load t rows i s e)
 

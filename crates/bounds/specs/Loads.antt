@@ -3,7 +3,7 @@ use Rattle.std.specs.Prelude.{ℕ, zero, suc, ◌+◌, ◌-◌, ◌*◌, ◌/◌
 use Rattle.table.specs.declared.row.Row.{Row}
 use Rattle.table.specs.Places.{nth}
 use Rattle.table.specs.Rows.{row}
-use Rattle.bounds.specs.Questions.{soundb, capped}
+use Rattle.bounds.specs.Questions.{soundb, timely}
 
 -- w: the most that a task runs in q, if it runs as early as it may: floor(q / T) × C + the lesser of C and q mod T
 abbrev pub work : Row → ℕ → ℕ
@@ -30,7 +30,7 @@ sum_to f (suc n) = sum_to f n + f (suc n)
 abbrev pub total_of : (ℕ → Bool) → (ℕ → ℕ) → ℕ → ℕ
 total_of chosen f n = sum_to (λ k. cond (chosen k) (f k) 0) n
 
--- the same over the tasks of a set
+-- the total of f over the tasks of a set, among the rows 1 to n
 abbrev pub sum_over : List Bool → (ℕ → ℕ) → ℕ → ℕ
 sum_over set f n = total_of (λ k. nth set k false) f n
 
@@ -44,4 +44,4 @@ deadline_load rows i above = sum_over above (deadline_part rows i) (length rows)
 
 -- da: C + floor(load / m), late past D; an unsound question is late
 abbrev pub da : ℕ → List Row → ℕ → List Bool → List ℕ → Option ℕ
-da m rows i above estimates = cond (soundb rows i above estimates) (capped (row rows i).deadline ((row rows i).wcet + deadline_load rows i above / m)) None
+da m rows i above estimates = cond (soundb rows i above estimates) (timely (row rows i).deadline ((row rows i).wcet + deadline_load rows i above / m)) None

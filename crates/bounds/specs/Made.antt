@@ -21,12 +21,14 @@ MadeProcessors m r = Asks (Allowed m) (r ≡ Err (BadTest nowhere)) ((p : Proces
 abbrev pub MadeOn : {T : Type 0} → (T → Processors) → ℕ → Result T Fault → Type 0
 MadeOn {T} processors m r = Asks (Allowed m) (r ≡ Err (BadTest nowhere)) ((t : T) × (r ≡ Ok t) × ((processors t).count ≡ m))
 
--- making each of the three tests
+-- making da on m processors
 abbrev pub MadeDa : ℕ → Result Da Fault → Type 0
 MadeDa = MadeOn (λ (t : Da). t.processors)
 
+-- making rta on m processors
 abbrev pub MadeRta : ℕ → Result Rta Fault → Type 0
 MadeRta = MadeOn (λ (t : Rta). t.processors)
 
+-- making lc on m processors
 abbrev pub MadeLc : ℕ → Result Lc Fault → Type 0
 MadeLc = MadeOn (λ (t : Lc). t.processors)

@@ -7,13 +7,13 @@ use Rattle.table.specs.Asking.{Asks}
 use Rattle.table.specs.Faults.{nowhere}
 use Rattle.table.specs.Rows.{row}
 use Rattle.bounds.specs.declared.overhead.Overhead.{Overhead}
-use Rattle.bounds.specs.Questions.{capped}
+use Rattle.bounds.specs.Questions.{timely}
 
 -- the answer below plus V, late past D; late stays late
 abbrev pub over : ℕ → List Row → ℕ → Option ℕ → Option ℕ
-over extra rows i None = None
-over extra rows i (Some bound) = capped (row rows i).deadline (bound + extra)
+over added rows i None = None
+over added rows i (Some bound) = timely (row rows i).deadline (bound + added)
 
 -- making an overhead of V over a test: V is at most 1,000,000, or a refusal
 abbrev pub MadeOverhead : {T : Type 0} → ℕ → T → Result (Overhead T) Fault → Type 0
-MadeOverhead {T} extra below r = Asks (extra ≤ 1000000) (r ≡ Err (BadTest nowhere)) ((o : Overhead T) × (r ≡ Ok o) × (o.extra ≡ extra) × (o.below ≡ below))
+MadeOverhead {T} added below r = Asks (added ≤ 1000000) (r ≡ Err (BadTest nowhere)) ((o : Overhead T) × (r ≡ Ok o) × (o.added ≡ added) × (o.below ≡ below))

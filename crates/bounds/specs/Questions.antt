@@ -18,22 +18,22 @@ pub record Sound (rows : List Row) (task : ℕ) (above : List Bool) (estimates :
   pub low : (k : ℕ) → Names rows k → (row rows k).wcet ≤ nth estimates k 0
   pub high : (k : ℕ) → Names rows k → nth estimates k 0 ≤ (row rows k).deadline
 
--- a test holds of every number from 1 to n
+-- a test holds of every number from 1 to n, computed
 unfoldable pub all_to : (ℕ → Bool) → ℕ → Bool
 all_to p zero = true
 all_to p (suc n) = p (suc n) && all_to p n
 
--- a row's estimate lies from its C to its D, and what is no row is not above
-abbrev pub fitsb : List Row → List Bool → List ℕ → ℕ → Bool
-fitsb rows above estimates k = cond (nat_le k (length rows)) (nat_le (row rows k).wcet (nth estimates k 0) && nat_le (nth estimates k 0) (row rows k).deadline) (not (nth above k false))
+-- whether k is a row whose estimate lies from its C to its D, or no row and not above
+abbrev pub sound_atb : List Row → List Bool → List ℕ → ℕ → Bool
+sound_atb rows above estimates k = cond (nat_le k (length rows)) (nat_le (row rows k).wcet (nth estimates k 0) && nat_le (nth estimates k 0) (row rows k).deadline) (not (nth above k false))
 
--- whether a question is sound, computed
+-- whether a question is sound, computed: it says what Sound says (sound_decides in Sounds)
 abbrev pub soundb : List Row → ℕ → List Bool → List ℕ → Bool
-soundb rows task above estimates = nat_le (length rows) 32 && (nat_le 1 task && (nat_le task (length rows) && (not (nth above task false) && all_to (fitsb rows above estimates) 32)))
+soundb rows task above estimates = nat_le (length rows) 32 && (nat_le 1 task && (nat_le task (length rows) && (not (nth above task false) && all_to (sound_atb rows above estimates) 32)))
 
 -- a bound that is late past the deadline
-abbrev pub capped : ℕ → ℕ → Option ℕ
-capped deadline bound = cond (nat_le bound deadline) (Some bound) None
+abbrev pub timely : ℕ → ℕ → Option ℕ
+timely deadline bound = cond (nat_le bound deadline) (Some bound) None
 
 -- the first answer is no greater than the second; late is greater than every number
 abbrev pub NoMore : Option ℕ → Option ℕ → Type 0

@@ -21,13 +21,17 @@ Least m i load r =
     MatchOption r ((l : ℕ) → i.wcet ≤ l → l ≤ i.deadline → i.wcet + load l / m ≤ l → ⊥)
     (λ b. (i.wcet ≤ b) × (b ≤ i.deadline) × (i.wcet + load b / m ≤ b) × ((l : ℕ) → i.wcet ≤ l → l < b → i.wcet + load l / m ≤ l → ⊥))
 
+-- the answer by a load: the least window that fits it; an unsound question is late
+abbrev pub answer_by : ℕ → (List Row → ℕ → List Bool → List ℕ → ℕ → ℕ) → List Row → ℕ → List Bool → List ℕ → Option ℕ
+answer_by m load rows i above estimates = cond (soundb rows i above estimates) (least_fit m (row rows i) (load rows i above estimates)) None
+
 -- rta's load in a window: the carried loads of the tasks above with their estimates
 abbrev pub carried_loads : List Row → ℕ → List Bool → List ℕ → ℕ → ℕ
 carried_loads rows i above estimates l = sum_over above (λ k. carried (row rows i) l (row rows k) (nth estimates k 0)) (length rows)
 
--- rta: the least window that fits its load; an unsound question is late
+-- rta: the answer by the carried loads
 abbrev pub rta : ℕ → List Row → ℕ → List Bool → List ℕ → Option ℕ
-rta m rows i above estimates = cond (soundb rows i above estimates) (least_fit m (row rows i) (carried_loads rows i above estimates)) None
+rta m = answer_by m carried_loads
 
 -- rta's answer to a sound question is the least window that fits the carried loads
 abbrev pub RtaMeaning : Type 0
@@ -60,9 +64,9 @@ extra rows i estimates l k = carried (row rows i) l (row rows k) (nth estimates 
 abbrev pub limited_load : ℕ → List Row → ℕ → List Bool → List ℕ → ℕ → ℕ
 limited_load c rows i above estimates l = plain_load rows i above l + greatest above (extra rows i estimates l) c (length rows)
 
--- lc: the least window that fits its load, with at most m − 1 tasks that carry load in; an unsound question is late
+-- lc: the answer by the load of which at most m − 1 tasks carry in
 abbrev pub lc : ℕ → List Row → ℕ → List Bool → List ℕ → Option ℕ
-lc m rows i above estimates = cond (soundb rows i above estimates) (least_fit m (row rows i) (limited_load (m - 1) rows i above estimates)) None
+lc m = answer_by m (limited_load (m - 1))
 
 -- lc's answer to a sound question is the least window that fits the plain loads plus the greatest total of what a choice of at most m − 1 tasks above adds
 abbrev pub LcMeaning : Type 0

@@ -33,10 +33,6 @@ work_mono j a b h =
           omega (arith, products, wholes, div-add-mod' a j.period, div-add-mod' b j.period)
     ]
 
--- no task runs for longer than the window
-pub work_le : (j : Row) (q : ℕ) → work j q ≤ q
-work_le j q = omega (arith, mul-le-mul_left {m = j.wcet} {n = j.period} (q / j.period) (omega (arith, j.ok)), div-add-mod' q j.period)
-
 -- a load is at most its cap, which is at most the window
 pub carried_le : (i : Row) (l : ℕ) (j : Row) (r : ℕ) → i.wcet ≤ l → carried i l j r ≤ l
 carried_le i l j r h = omega (arith, i.ok)

@@ -1,7 +1,7 @@
 // The work of one task in a window, and a bound that is held to a deadline.
 ghost use Rattle.std.specs.Prelude.{◌≡◌, ◌≤◌};
 ghost use Rattle.bounds.specs.Loads.{work};
-ghost use Rattle.bounds.specs.Questions.{capped};
+ghost use Rattle.bounds.specs.Questions.{timely as timely_bound};
 
 use table::row::Row;
 
@@ -16,8 +16,8 @@ pub(crate) fn work_in(row: Row, q: u32) -> u32
 }
 
 // The bound, or none past the deadline.
-pub(crate) fn within(deadline: u32, bound: u32) -> Option<u32>
-    ensures { result ≡ capped deadline bound }
+pub(crate) fn timely(deadline: u32, bound: u32) -> Option<u32>
+    ensures { result ≡ timely_bound deadline bound }
 {
     (bound <= deadline).then_some(bound)
 }

@@ -5,7 +5,7 @@ pub mod ask;
 
 #[derive(Drop)]
 pub struct Overhead<T> {
-    extra: u32,
+    added: u32,
     below: T,
-    ghost ok: { extra ≤ 1000000 },
+    ghost ok: { added ≤ 1000000 },
 }

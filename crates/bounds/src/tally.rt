@@ -1,6 +1,6 @@
 // What is added up of the loads that are held in a window, and the next cap that it leaves.
-ghost use Rattle.std.specs.Prelude.{◌≡◌, ℕ, ◌≤◌, List};
-ghost use Rattle.bounds.specs.Climbs.{Tallied, Limited, NoneDo, next_cap as cap_after};
+ghost use Rattle.std.specs.Prelude.{ℕ, ◌*◌, ◌<◌, ◌≤◌, List};
+ghost use Rattle.bounds.specs.Climbs.{Tallied, Limited, NoneDo};
 
 use crate::processors::Processors;
 
@@ -50,7 +50,7 @@ impl Tally {
     // function gives them, and this one alone relies on them.
     pub(crate) fn next_cap(self, m: Processors) -> u32
         requires { Limited self }
-        ensures next { result ≡ cap_after self m.count }
+        ensures rises { (y : ℕ) → m.count * y ≤ self.sum → y < result }
         ensures skips { (held : List ℕ) (y : ℕ) → Tallied held 32 y self → NoneDo held m.count y result }
     {
         let count = m.count();

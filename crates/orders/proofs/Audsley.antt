@@ -2,7 +2,7 @@
 use Rattle.std.proofs.Common.{◌≡◌, ℕ, zero, suc, ◌+◌, ◌<◌, ◌≤◌, Bool, true, false, List, [], ◌∷◌, ◌++◌, length, take, Some, None, Option, option_and_then, sym, refl, ap, ◌∙◌, subst, inl, inr, add-one, arith, MatchOption}
 use Rattle.std.proofs.lemmas.List.{append-nil, length-append, get_or_append_left, get_or_at, append_assoc}
 use Rattle.std.proofs.lemmas.Option.{none-some, same_Some}
-use Rattle.std.proofs.lemmas.Bool.{cases_eq, cases_lt, cond-true, and_parts, and_from, both_ways, leb-true, le-leb, false≢true}
+use Rattle.std.proofs.lemmas.Bool.{cases_eq, cases_lt, and_parts, and_from, both_ways, leb-true, le-leb, false≢true}
 use Rattle.table.specs.declared.row.Row.{Row}
 use Rattle.table.specs.Places.{nth, put}
 use Rattle.table.proofs.Placed.{nth_put_same, nth_put_other, nth_replicate, length_put}
@@ -10,16 +10,14 @@ use Rattle.bounds.specs.Questions.{Sound, In, NoMore, Laws}
 use Rattle.bounds.specs.Loads.{sum_over}
 use Rattle.bounds.specs.Orders.{task_at, Order, first}
 use Rattle.bounds.specs.Responses.{least_from}
-use Rattle.bounds.specs.Compared.{given_when}
 use Rattle.bounds.specs.Leasts.{least_is, least_none, least_before}
 use Rattle.bounds.proofs.Descents.{first_none, first_more}
 use Rattle.bounds.specs.Sounds.{in_low}
 use Rattle.orders.specs.declared.range.Range.{Range}
-use Rattle.orders.specs.Ranges.{high, Within, withinb, Passes, Admits, Closed}
+use Rattle.orders.specs.Ranges.{high, Within, Passes, Admits, Closed}
 use Rattle.orders.specs.Assigner.{at_most, full, candidate, fill, assigned, Assigns, Settles, LowestNumbered, FillsLowest}
 use Rattle.orders.proofs.Sets.{out, was_in, still_in, put_back, first_length, member_first, not_first, every, same_set, first_same, count_all, count_out, none_in, full_length, full_in, full_out, first_out}
 use Rattle.orders.proofs.Puts.{put_apart}
-use Rattle.orders.proofs.Withins.{within_test}
 
 -- an answer is at most a number, computed and as a fact
 pub at_most_from : (a : Option ℕ) (x : ℕ) → at_most a x ≡ true → NoMore a (Some x)
@@ -228,17 +226,15 @@ module _ {T : Type 0} {answer : T → List Row → ℕ → List Bool → List �
         (λ p l k below member passes. found.2.lowest p l k (in_low _ k member) below (and_from (nth (first found.0 (p + 1)) k false) _ member (at_most_test _ _ passes)))
 
     -- the range is decided
-    pub decided : Within rows r → (found : Option (List ℕ)) → assigned answer t rows r ≡ found → MatchOption found (Closed answer t rows r) (λ order. Admits answer t rows r order)
-    decided within None is = λ order admits. not_none few order admits.0 admits.1 (sym (cond-true (withinb rows r) _ None (within_test rows r within)) ∙ is)
-    decided within (Some order) is = found_admits order (sym (cond-true (withinb rows r) _ None (within_test rows r within)) ∙ is)
+    pub decided : (found : Option (List ℕ)) → assigned answer t rows r ≡ found → MatchOption found (Closed answer t rows r) (λ order. Admits answer t rows r order)
+    decided None is = λ order admits. not_none few order admits.0 admits.1 is
+    decided (Some order) is = found_admits order is
 
     -- what follows from the assigner's rule
     pub settles : (found : Option (List ℕ)) → Assigns answer t rows r found → Settles answer t rows r found
-    settles None is within = decided within None is
-    settles (Some tasks) is within = decided within (Some (take (length rows) tasks)) is.0
+    settles None is within = decided None (is.1 within)
+    settles (Some tasks) is within = decided (Some (take (length rows) tasks)) (is.1 within).0
 
-    pub fills_lowest : (found : Option (List ℕ)) → Assigns answer t rows r found → FillsLowest answer t rows r found
-    fills_lowest None is = tt
-    fills_lowest (Some tasks) is =
-        let order = take (length rows) tasks in
-        found_lowest order (given_when (withinb rows r) _ order is.0).1
+    pub fills_lowest : Within rows r → (found : Option (List ℕ)) → Assigns answer t rows r found → FillsLowest answer t rows r found
+    fills_lowest within None is = tt
+    fills_lowest within (Some tasks) is = found_lowest (take (length rows) tasks) (is.1 within).0

@@ -2,14 +2,13 @@
 use Rattle.std.proofs.Common.{◌≡◌, ℕ, zero, suc, ◌+◌, ◌-◌, ◌<◌, ◌≤◌, Bool, true, false, List, [], ◌∷◌, length, get_or, take, drop, set, replicate, Some, None, Option, option_and_then, sym, refl, ap, ◌∙◌, arith}
 use lib.Seq.{take-set-lt}
 use Rattle.std.proofs.lemmas.List.{drop-set, length-take-le, drop_all, length-set, length-replicate, get_or-set_other}
-use Rattle.std.proofs.lemmas.Bool.{cond-true, cond-false}
 use Rattle.table.specs.declared.row.Row.{Row}
 use Rattle.table.specs.Places.{put}
 use Rattle.table.proofs.Placed.{nth_at, nth_next, put_at, nth_replicate}
 use Rattle.bounds.specs.Orders.{task_at}
 use Rattle.bounds.specs.Responses.{least_from}
 use Rattle.orders.specs.declared.range.Range.{Range}
-use Rattle.orders.specs.Ranges.{withinb}
+use Rattle.orders.specs.Ranges.{Within}
 use Rattle.orders.specs.Assigner.{at_most, full, candidate, fill, assigned, Assigns}
 
 -- the tasks placed so far, once one more is placed above them
@@ -42,9 +41,6 @@ module _ {T : Type 0} (answer : T → List Row → ℕ → List Bool → List �
   fill_level zero left placed found h is = absurd (omega arith)
   fill_level (suc l) left placed found h is = let z : suc l - 1 ≡ l = omega arith in rw (is, z) refl
 
-  pub assigned_not : withinb rows r ≡ false → assigned answer t rows r ≡ None
-  assigned_not z = cond-false (withinb rows r) (fill answer t rows r (length rows) (full (length rows)) []) None z
-
   -- The levels from this one up are filled: with what is left below, they give the assigner's order.
   pub record Filling (level : ℕ) (left : List Bool) (order : List ℕ) : Type 0 where
     long : length order ≡ 32
@@ -70,11 +66,11 @@ module _ {T : Type 0} (answer : T → List Row → ℕ → List Bool → List �
         past = λ p out. get_or-set_other order (level - 1) p k 0 (λ e. omega arith) ∙ filling.past p out;
       }
 
-      pub filling_fails : withinb rows r ≡ true → None ≡ least_from (candidate answer t rows r left) 1 (length rows) → assigned answer t rows r ≡ None
-      filling_fails within is = cond-true (withinb rows r) _ None within ∙ sym filling.rest ∙ fill_level level left placed None pos is
+      pub filling_fails : None ≡ least_from (candidate answer t rows r left) 1 (length rows) → assigned answer t rows r ≡ None
+      filling_fails is = sym filling.rest ∙ fill_level level left placed None pos is
 
-  pub filling_all : (level : ℕ) (left : List Bool) (order : List ℕ) → Filling level left order → withinb rows r ≡ true → level ≡ 0 → Assigns answer t rows r (Some order)
+  pub filling_all : (level : ℕ) (left : List Bool) (order : List ℕ) → Filling level left order → Within rows r → level ≡ 0 → Assigns answer t rows r (Some order)
   filling_all level left order filling within e = (
-    cond-true (withinb rows r) _ None within ∙ sym filling.rest ∙ fill_none level left (drop level (take (length rows) order)) e ∙ ap (λ l. Some (drop l (take (length rows) order))) e,
-    filling.past,
+    (λ out. absurd (out within)),
+    λ _. (sym filling.rest ∙ fill_none level left (drop level (take (length rows) order)) e ∙ ap (λ l. Some (drop l (take (length rows) order))) e, filling.past),
   )

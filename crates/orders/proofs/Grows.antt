@@ -1,5 +1,6 @@
 -- Growing a closed range: the ends are those of the rule, and the grown range is maximal.
-use Rattle.std.proofs.Common.{◌≡◌, ℕ, suc, ◌+◌, ◌-◌, ◌<◌, ◌≤◌, Bool, ◌⊎◌, List, length, Some, None, Option, sym, refl, ap, ◌∙◌, subst, inl, inr, arith}
+use Rattle.std.proofs.Common.{◌≡◌, ℕ, suc, ◌+◌, ◌-◌, ◌*◌, ◌^◌, ◌<◌, ◌≤◌, Bool, ◌⊎◌, List, length, Some, None, Option, sym, refl, ap, ◌∙◌, subst, inl, inr, arith}
+use Rattle.std.proofs.Math.Nat.{pow-succ'}
 use Rattle.std.proofs.lemmas.Bool.{cases_eq, cases_lt}
 use Rattle.table.specs.declared.row.Row.{Row}
 use Rattle.table.specs.Rows.{Names}
@@ -10,43 +11,49 @@ use Rattle.orders.specs.declared.end.End.{End}
 use Rattle.orders.specs.declared.end.End.TheVariants.{Low, High}
 use Rattle.orders.specs.Ranges.{low, high, Within, Contains, Open, Closed}
 use Rattle.orders.specs.Assigner.{assigned}
-use Rattle.orders.specs.Growth.{with_low, with_high, moved, span, LowGrown, HighGrown, EndGrown, GrownTo, start, next, Maximal}
+use Rattle.orders.specs.Growth.{with_low, with_high, moved, reach, LowGrown, HighGrown, EndGrown, GrownTo, start, next, Maximal}
 use Rattle.orders.proofs.Audsley.{decided}
-use Rattle.orders.proofs.Moves.{low_here, high_here, within_low, within_high, contains_by_low, contains_by_high, moved_within, moved_contains, moved_none, moved_twice, span_moved}
+use Rattle.orders.proofs.Moves.{low_here, high_here, within_low, within_high, contains_by_low, contains_by_high, moved_within, moved_contains, moved_none, moved_twice, reach_moved, reach_short}
 use Rattle.orders.proofs.Narrows.{narrowing}
+
+-- what is left after round n of 20 that each halve it
+pub halved : (n a b : ℕ) → n < 20 → a < 2 ^ (20 - n) → 2 * b ≤ a → b < 2 ^ (20 - (n + 1))
+halved n a b l h le =
+    let next : 20 - n ≡ suc (20 - (n + 1)) = omega arith in
+    omega (arith, h, le, ap (λ j. 2 ^ j) next ∙ pow-succ' 2 (20 - (n + 1)))
 
 -- An end of row k has been moved out, and there is this much room left to move it: any farther leaves the range open.
 pub record MovedOut {T : Type 0} (answer : T → List Row → ℕ → List Bool → List ℕ → Option ℕ) (t : T) (rows : List Row) (end : End) (r : Range) (k room : ℕ) (q : Range) : Type 0 where
   by : ℕ
   is : q ≡ moved end r k by
-  fits : by + room ≤ span end rows r k
-  opens : (b : ℕ) → by + room < b → b ≤ span end rows r k → Closed answer t rows (moved end r k b) → ⊥
+  inside : by + room ≤ reach end rows r k
+  opens : (b : ℕ) → by + room < b → b ≤ reach end rows r k → Closed answer t rows (moved end r k b) → ⊥
 
 module _ {T : Type 0} {answer : T → List Row → ℕ → List Bool → List ℕ → Option ℕ} (laws : Laws answer) (t : T) (rows : List Row) (few : length rows ≤ 32) where
   abbrev Shut : Range → Type 0
   Shut r = Closed answer t rows r
 
-  by_answer : (r : Range) → Within rows r → (found : Option (List ℕ)) → assigned answer t rows r ≡ found → Open answer t rows r ⊎ Shut r
-  by_answer r within None is = inr (decided laws t rows r few within None is)
-  by_answer r within (Some order) is = inl (order, decided laws t rows r few within (Some order) is)
+  by_answer : (r : Range) → (found : Option (List ℕ)) → assigned answer t rows r ≡ found → Open answer t rows r ⊎ Shut r
+  by_answer r None is = inr (decided laws t rows r few None is)
+  by_answer r (Some order) is = inl (order, decided laws t rows r few (Some order) is)
 
   -- a range is open or closed
-  pub open_or_closed : (r : Range) → Within rows r → Open answer t rows r ⊎ Shut r
-  open_or_closed r within = by_answer r within (assigned answer t rows r) refl
+  pub open_or_closed : (r : Range) → Open answer t rows r ⊎ Shut r
+  open_or_closed r = by_answer r (assigned answer t rows r) refl
 
   -- an end is grown once no room is left
   grown_at : (end : End) (r : Range) → Within rows r → (k : ℕ) → Names rows k → (q : Range) → MovedOut answer t rows end r k 0 q → Shut q → EndGrown answer t rows end r k q
   grown_at Low r within k names q out shut = record {
     value = low r k - out.by;
     is = out.is;
-    least = omega (arith, out.fits, (within k names).0);
+    least = omega (arith, out.inside, (within k names).0);
     closed = shut;
     below = λ v a b closed. out.opens (low r k - v) (omega arith) (omega arith) (subst (λ x. Shut (with_low r k x)) (omega (arith, (within k names).0)) closed);
   }
   grown_at High r within k names q out shut = record {
     value = high r k + out.by;
     is = out.is;
-    greatest = omega (arith, out.fits, (within k names).2);
+    greatest = omega (arith, out.inside, (within k names).2);
     closed = shut;
     above = λ v a b closed. out.opens (v - high r k) (omega arith) (omega arith) (subst (λ x. Shut (with_high r k x)) (omega arith) closed);
   }
@@ -59,18 +66,21 @@ module _ {T : Type 0} {answer : T → List Row → ℕ → List Bool → List �
     abbrev names : Names rows k
     names = (omega arith, omega arith)
 
-    pub out_none : MovedOut answer t rows end r k (span end rows r k) r
-    out_none = record { by = 0; is = sym (moved_none end r k names.0); fits = omega arith; opens = λ b far near. absurd (omega arith) }
+    pub out_none : MovedOut answer t rows end r k (reach end rows r k) r
+    out_none = record { by = 0; is = sym (moved_none end r k names.0); inside = omega arith; opens = λ b far near. absurd (omega arith) }
 
-    -- what is left of the span
-    pub room_left : (room : ℕ) (q : Range) → MovedOut answer t rows end r k room q → room ≤ span end rows q k
-    room_left room q out = omega (arith, out.fits, ap (λ x. span end rows x k) out.is ∙ span_moved rows r within k names end out.by)
+    pub short : reach end rows r k < 1000000
+    short = reach_short rows r within k names end
+
+    -- what is left of the reach
+    pub room_left : (room : ℕ) (q : Range) → MovedOut answer t rows end r k room q → room ≤ reach end rows q k
+    room_left room q out = omega (arith, out.inside, ap (λ x. reach end rows x k) out.is ∙ reach_moved rows r within k names end out.by)
 
     pub out_more : (room step : ℕ) (q wider : Range) → MovedOut answer t rows end r k room q → step ≤ room → wider ≡ moved end q k step → MovedOut answer t rows end r k (room - step) wider
     out_more room step q wider out le is = record {
       by = out.by + step;
       is = is ∙ ap (λ x. moved end x k step) out.is ∙ moved_twice rows r within k names end out.by step;
-      fits = omega (arith, out.fits);
+      inside = omega (arith, out.inside);
       opens = λ b far near. out.opens b (omega arith) near;
     }
 
@@ -79,16 +89,16 @@ module _ {T : Type 0} {answer : T → List Row → ℕ → List Bool → List �
     out_less room step q out pos le opened = record {
       by = out.by;
       is = out.is;
-      fits = omega (arith, out.fits);
+      inside = omega (arith, out.inside);
       opens = λ b far near closed.
           let here : moved end q k step ≡ moved end r k (out.by + step) = ap (λ x. moved end x k step) out.is ∙ moved_twice rows r within k names end out.by step in
-          let lies = moved_within rows r within k names end (out.by + step) (omega (arith, out.fits)) in
+          let lies = moved_within rows r within k names end (out.by + step) (omega (arith, out.inside)) in
           opened (subst (Within rows) (sym here) lies)
           (subst Shut (sym here) (narrowing laws t rows few (moved end r k b) (moved end r k (out.by + step)) (moved_within rows r within k names end b near) lies (moved_contains rows r within k names end (out.by + step) b (omega arith)) closed));
     }
 
-    pub end_grown : (q : Range) → MovedOut answer t rows end r k 0 q → Shut q → EndGrown answer t rows end r k q
-    end_grown = grown_at end r within k names
+    pub end_grown : (room : ℕ) (q : Range) → MovedOut answer t rows end r k room q → room ≡ 0 → Shut q → EndGrown answer t rows end r k q
+    end_grown room q out none shut = grown_at end r within k names q (subst (λ n. MovedOut answer t rows end r k n q) none out) shut
 
   -- a row more is grown, counted from 0
   pub grown_next : (r : Range) (place : ℕ) (before lower after : Range) → GrownTo answer t rows r place before → LowGrown answer t rows before (place + 1) lower → HighGrown answer t rows lower (place + 1) after → GrownTo answer t rows r (place + 1) after
@@ -191,7 +201,7 @@ module _ {T : Type 0} {answer : T → List Row → ℕ → List Bool → List �
         contains = s.contains;
         within = s.within;
         closed = s.closed;
-        wider = λ w hw wider. elim (open_or_closed w hw) [
+        wider = λ w hw wider. elim (open_or_closed w) [
           | inl o ↦ o
           | inr shut ↦ absurd (s.maximal w hw wider.0 wider.1.0 wider.1.1 wider.1.1.1 wider.1.2 shut)
         ];

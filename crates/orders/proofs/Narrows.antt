@@ -12,8 +12,8 @@ use Rattle.orders.specs.Ranges.{low, high, Within, Contains, Admits, Closed}
 use Rattle.orders.proofs.Sets.{first_in, not_first}
 
 -- a question about a task of an order is sound, if the estimates are
-pub sound_at : (rows : List Row) → length rows ≤ 32 → (order : List ℕ) → Order (length rows) order → (e : List ℕ) → ((k : ℕ) → Names rows k → ((row rows k).wcet ≤ nth e k 0) × (nth e k 0 ≤ (row rows k).deadline)) → (p : ℕ) → p < length rows → Sound rows (task_at order p) (first order p) e
-sound_at rows few order o e within p l = record {
+pub sound_down : (rows : List Row) → length rows ≤ 32 → (order : List ℕ) → Order (length rows) order → (e : List ℕ) → ((k : ℕ) → Names rows k → ((row rows k).wcet ≤ nth e k 0) × (nth e k 0 ≤ (row rows k).deadline)) → (p : ℕ) → p < length rows → Sound rows (task_at order p) (first order p) e
+sound_down rows few order o e within p l = record {
   few = few;
   names = o.rows p l;
   inside = λ k h y. let was = first_in order p k y in let named = o.rows was.0 (omega (arith, was.1)) in (omega (arith, named.0, was.2), omega (arith, named.1, was.2));
@@ -31,7 +31,7 @@ module _ {T : Type 0} {answer : T → List Row → ℕ → List Bool → List �
     o,
     λ p l.
         let m : p < length rows = omega (arith, o.size) in
-        let less = laws.greater t rows (task_at order p) (first order p) w.lows r.lows (sound_at rows few order o w.lows (lows_lie w hw) p m) (sound_at rows few order o r.lows (lows_lie r hr) p m) (λ k names. (c k names).0) in
+        let less = laws.greater t rows (task_at order p) (first order p) w.lows r.lows (sound_down rows few order o w.lows (lows_lie w hw) p m) (sound_down rows few order o r.lows (lows_lie r hr) p m) (λ k names. (c k names).0) in
         let a = answer t rows (task_at order p) (first order p) w.lows in
         let b = answer t rows (task_at order p) (first order p) r.lows in
         no_more_join a b (Some (high w (task_at order p))) less (no_more_join b (Some (high r (task_at order p))) (Some (high w (task_at order p))) (passes p l) (c (task_at order p) (o.rows p m)).1),

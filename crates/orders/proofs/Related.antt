@@ -15,7 +15,7 @@ use Rattle.bounds.proofs.Padded.{padded_at, padded_length}
 use Rattle.bounds.proofs.Wcets.{wcets_at}
 use Rattle.orders.specs.Ranges.{as_range, Passes}
 use Rattle.orders.specs.Relations.{OneOrOther, PassesOwn, HoldsBelow, Relations}
-use Rattle.orders.proofs.Narrows.{sound_at}
+use Rattle.orders.proofs.Narrows.{sound_down}
 use Rattle.orders.proofs.Sets.{first_in, every}
 
 module _ {T : Type 0} (answer : T → List Row → ℕ → List Bool → List ℕ → Option ℕ) (t : T) (rows : List Row) where
@@ -103,7 +103,7 @@ module _ (rows : List Row) (few : length rows ≤ 32) (order : List ℕ) (o : Or
         let agree : (k : ℕ) → In (first order p) k → nth (estimated rows order bounds p) k 0 ≡ nth (padded bounds) k 0 =
         λ k y. let was = first_in order p k y in
         subst (λ j. nth (estimated rows order bounds p) j 0 ≡ nth (padded bounds) j 0) was.2 (estimated_above p (omega arith) was.0 was.1 ∙ sym (same (task_at order was.0) (o.rows was.0 (omega (arith, was.1))))) in
-        let is = laws.reads t rows task (first order p) (estimated rows order bounds p) (padded bounds) sound (sound_at rows few order o (padded bounds) within p inside) agree in
+        let is = laws.reads t rows task (first order p) (estimated rows order bounds p) (padded bounds) sound (sound_down rows few order o (padded bounds) within p inside) agree in
         subst (λ x. NoMore x (Some (nth (padded bounds) task 0))) (sym (bounded p l) ∙ is) (omega (arith, same task (o.rows p inside)))
 
     module _ (e : List ℕ) (within : (k : ℕ) → Names rows k → ((row rows k).wcet ≤ nth e k 0) × (nth e k 0 ≤ (row rows k).deadline)) (passes : PassesBy answer t rows e e order) where
@@ -113,7 +113,7 @@ module _ (rows : List Row) (few : length rows ≤ 32) (order : List ℕ) (o : Or
           let est = estimated rows order bounds p in
           let inside = estimated_each (λ k v. ((row rows k).wcet ≤ v) × (v ≤ (row rows k).deadline)) (λ k names. (omega arith, omega (arith, (row rows k).ok))) p (omega arith) (bound_within p bounded) in
           let less = estimated_each (λ k v. v ≤ nth e k 0) (λ k names. (within k names).0) p (omega arith) below in
-          no_more_join (answer_at answer t rows order bounds p) (answer t rows (task_at order p) (first order p) e) (Some (nth e (task_at order p) 0)) (laws.greater t rows (task_at order p) (first order p) est e (sound_at rows few order o est inside p l) (sound_at rows few order o e within p l) less) (passes p (omega (arith, o.size)))
+          no_more_join (answer_at answer t rows order bounds p) (answer t rows (task_at order p) (first order p) e) (Some (nth e (task_at order p) 0)) (laws.greater t rows (task_at order p) (first order p) est e (sound_down rows few order o est inside p l) (sound_down rows few order o e within p l) less) (passes p (omega (arith, o.size)))
 
       below_all : (p : ℕ) → p ≤ length rows → Bounded answer t rows order bounds p → (q : ℕ) → q < p → nth bounds (task_at order q) 0 ≤ nth e (task_at order q) 0
       below_all zero le bounded q l = absurd (omega arith)

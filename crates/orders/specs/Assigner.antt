@@ -1,12 +1,13 @@
 -- The assigner: levels filled from the lowest up, each by the lowest-numbered unplaced task that passes there.
-use Rattle.std.specs.Prelude.{◌≡◌, ℕ, zero, suc, ◌+◌, ◌<◌, ◌≤◌, Bool, true, false, cond, ◌&&◌, List, [], ◌∷◌, length, take, replicate, IfSome, Some, None, Option, MatchOption, nat_le, slice_set, option_and_then}
+use Rattle.std.specs.Prelude.{◌≡◌, ℕ, zero, suc, ◌+◌, ◌<◌, ◌≤◌, Bool, true, false, ◌&&◌, List, [], ◌∷◌, length, take, replicate, IfSome, Some, None, Option, MatchOption, nat_le, slice_set, option_and_then}
 use Rattle.table.specs.declared.row.Row.{Row}
+use Rattle.table.specs.Asking.{Asks}
 use Rattle.table.specs.Places.{nth, put}
 use Rattle.bounds.specs.Questions.{In, NoMore}
 use Rattle.bounds.specs.Orders.{task_at, first}
 use Rattle.bounds.specs.Responses.{least_from}
 use Rattle.orders.specs.declared.range.Range.{Range}
-use Rattle.orders.specs.Ranges.{high, Within, withinb, Admits, Closed}
+use Rattle.orders.specs.Ranges.{high, Within, Admits, Closed}
 
 -- an answer is at most a number; late is not
 abbrev pub at_most : Option ℕ → ℕ → Bool
@@ -28,13 +29,15 @@ module _ {T : Type 0} (answer : T → List Row → ℕ → List Bool → List �
   fill zero left placed = Some placed
   fill (suc l) left placed = option_and_then (λ k. fill l (put left k false) (k ∷ placed)) (least_from (candidate left) 1 (length rows))
 
-  -- the assigner's order; none for what is no range of the rows
+  -- all levels filled, the highest first; none where no task passes at one
   abbrev pub assigned : Option (List ℕ)
-  assigned = cond (withinb rows r) (fill (length rows) (full (length rows)) []) None
+  assigned = fill (length rows) (full (length rows)) []
 
-  -- the assigner gives that order, the highest task first and 0 past the last, or none
+  -- the assigner gives what is no range of the rows no order; for a range it gives the order of the filled levels, with 0 past the last task, or none
   abbrev pub Assigns : Option (List ℕ) → Type 0
-  Assigns found = MatchOption found (assigned ≡ None) (λ tasks. (assigned ≡ Some (take (length rows) tasks)) × ((p : ℕ) → length rows ≤ p → task_at tasks p ≡ 0))
+  Assigns found =
+      Asks (Within rows r) (found ≡ None)
+      (MatchOption found (assigned ≡ None) (λ tasks. (assigned ≡ Some (take (length rows) tasks)) × ((p : ℕ) → length rows ≤ p → task_at tasks p ≡ 0)))
 
   -- it finds an order exactly when the range is open, and what it finds lists every row once and passes
   abbrev pub Settles : Option (List ℕ) → Type 0

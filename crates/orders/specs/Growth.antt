@@ -22,9 +22,9 @@ moved Low r k by = with_low r k (low r k - by)
 moved High r k by = with_high r k (high r k + by)
 
 -- how far an end of row k may be moved out
-abbrev pub span : End → List Row → Range → ℕ → ℕ
-span Low rows r k = low r k - (row rows k).wcet
-span High rows r k = (row rows k).deadline - high r k
+abbrev pub reach : End → List Row → Range → ℕ → ℕ
+reach Low rows r k = low r k - (row rows k).wcet
+reach High rows r k = (row rows k).deadline - high r k
 
 module _ {T : Type 0} (answer : T → List Row → ℕ → List Bool → List ℕ → Option ℕ) (t : T) (rows : List Row) where
   -- row k's low becomes the least value, at least C, that leaves the range closed
@@ -43,6 +43,7 @@ module _ {T : Type 0} (answer : T → List Row → ℕ → List Bool → List �
     pub closed : Closed answer t rows q
     pub above : (v : ℕ) → value < v → v ≤ (row rows k).deadline → Closed answer t rows (with_high r k v) → ⊥
 
+  -- an end of row k is grown: its low, or its high
   abbrev pub EndGrown : End → Range → ℕ → Range → Type 0
   EndGrown Low r k q = LowGrown r k q
   EndGrown High r k q = HighGrown r k q
@@ -67,6 +68,7 @@ module _ {T : Type 0} (answer : T → List Row → ℕ → List Bool → List �
     pub closed : Closed answer t rows q
     pub wider : (w : Range) → Within rows w → Wider rows w q → Open answer t rows w
 
+  -- growing a closed range of the rows: the grown range is maximal
   abbrev pub GrownMaximal : Range → Range → Type 0
   GrownMaximal r q = Within rows r → Closed answer t rows r → Maximal r q
 

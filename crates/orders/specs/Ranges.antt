@@ -2,25 +2,21 @@
 use Rattle.std.specs.Prelude.{ℕ, ◌<◌, ◌≤◌, Bool, ◌⊎◌, List, length, Option}
 use Rattle.table.specs.declared.row.Row.{Row}
 use Rattle.table.specs.Places.{nth}
-use Rattle.table.specs.Rows.{row, spans, Names}
-use Rattle.bounds.specs.Questions.{all_to}
+use Rattle.table.specs.Rows.{row, Names}
 use Rattle.bounds.specs.Orders.{Order, padded, PassesBy}
 use Rattle.orders.specs.declared.range.Range.{Range}
 
--- row k's low, and its high
+-- row k's low
 abbrev pub low : Range → ℕ → ℕ
 low r k = nth r.lows k 0
 
+-- row k's high
 abbrev pub high : Range → ℕ → ℕ
 high r k = nth r.highs k 0
 
 -- a range of the rows: C ≤ low ≤ high ≤ D for each row
 abbrev pub Within : List Row → Range → Type 0
 Within rows r = (k : ℕ) → Names rows k → ((row rows k).wcet ≤ low r k) × (low r k ≤ high r k) × (high r k ≤ (row rows k).deadline)
-
--- whether it is one, computed
-abbrev pub withinb : List Row → Range → Bool
-withinb rows r = all_to (λ k. spans (row rows k) (low r k) (high r k)) (length rows)
 
 -- a range contains another: none of its lows is greater, and none of its highs is smaller
 abbrev pub Contains : List Row → Range → Range → Type 0
@@ -51,6 +47,6 @@ module _ {T : Type 0} (answer : T → List Row → ℕ → List Bool → List �
   abbrev pub Open : Range → Type 0
   Open r = (order : List ℕ) × Admits r order
 
-  -- and closed if it admits none
+  -- a range is closed if it admits none
   abbrev pub Closed : Range → Type 0
   Closed r = (order : List ℕ) → Admits r order → ⊥

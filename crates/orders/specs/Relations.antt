@@ -19,7 +19,7 @@ module _ {T : Type 0} (answer : T → List Row → ℕ → List Bool → List �
   abbrev pub HoldsBelow : Type 0
   HoldsBelow = (order estimates : List ℕ) → Order (length rows) order → Estimates rows estimates → Passes answer t rows (as_range estimates) order → (bounds : List ℕ) × Bounded answer t rows order bounds (length order) × ((k : ℕ) → Names rows k → nth bounds k 0 ≤ nth estimates k 0)
 
-  -- what the search needs of these
+  -- how the orders that hold and the orders that pass are related
   pub record Relations : Type 0 where
     pub either : OneOrOther
     pub own : PassesOwn

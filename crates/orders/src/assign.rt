@@ -1,9 +1,9 @@
 // The assigner: Audsley's method for a range.
-ghost use Rattle.std.specs.Prelude.{◌≡◌, ◌≤◌, length};
+ghost use Rattle.std.specs.Prelude.{◌≡◌, ◌≤◌, ◌↔◌, length, IsTrue};
 ghost use Rattle.table.specs.Rows.{view};
 ghost use Rattle.bounds.specs.Responses.{least_from};
 ghost use Rattle.orders.specs.Assigner.{candidate, full, Assigns, Settles, FillsLowest};
-ghost use Rattle.orders.specs.Ranges.{withinb};
+ghost use Rattle.orders.specs.Ranges.{Within};
 ghost use Rattle.orders.specs.Relations.{Relations};
 
 use crate::range::Range;
@@ -15,7 +15,7 @@ use table::rows::Table;
 
 /// Whether this is a range of the table.
 pub fn is_range(table: &Table<Row>, range: &Range) -> bool
-    ensures { result ≡ withinb (view table.now) range.now }
+    ensures { IsTrue result ↔ Within (view table.now) range.now }
 {
     let ends = range.lows.iter().zip(&range.highs);
     table

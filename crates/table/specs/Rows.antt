@@ -81,6 +81,6 @@ abbrev pub Removes : Rows Row → ℕ → Result (Unit {0}) Fault → Rows Row �
 Removes t k r t' =
     Asks (Names (view t) k) (Refuses t NoRow r t') ((r ≡ Ok tt) × (view t' ≡ remove (view t) (k - 1)))
 
--- reading row k
+-- reading row k gives it, or a refusal where there is none
 abbrev pub Reads : Rows Row → ℕ → Result Row Fault → Type 0
 Reads t k r = Asks (Names (view t) k) (r ≡ Err NoRow) ((d : Row) → r ≡ Ok (nth (view t) k d))

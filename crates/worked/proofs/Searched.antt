@@ -13,7 +13,7 @@ use Rattle.study.proofs.Runs.{EachFull}
 use Rattle.worked.specs.Examples.{tasks, pair, lone, both, on_two, on_one, response, ranged, FoundAfterSplit, NoneAfterKept, FoundAtOnce}
 use Rattle.worked.proofs.Growths.{low_to_cost, high_to_deadline, high_to}
 use Rattle.worked.proofs.Searching.{begun_on, stepped_on, does_keep, does_split, does_find, ends_none}
-use Rattle.worked.proofs.Decisions.{of_three, all_open, lows_closed, a_closed, a_open, b_closed, b_open, c_closed, c_open, last_open, last_lows_open, last_order, both_closed, both_lows_closed, five, lone_open, lone_order}
+use Rattle.worked.proofs.Decisions.{of_three, all_open, lows_closed, a_closed, a_open, b_closed, b_open, c_closed, c_open, last_open, last_lows_open, last_order, last_inside, both_closed, both_lows_closed, five, lone_open, lone_order, lone_inside}
 
 -- the list of the tasks' lows grows to the closed range: a's high, b's and c's
 grown_lows : GrownTo response on_two tasks (lows_of (whole tasks)) 3 (ranged 4)
@@ -59,7 +59,7 @@ found_after_split before begun room r is has one three begins =
               on.pending,
               λ r found steps.
                   let stepped = stepped_on response on_two own split found r on.runs on.kept steps in
-                  let finds = does_find response on_two tasks own 1 3 (of_three 2 2 5 3 3 6) split found on stepped.1 (lit≤ tt) last_open last_lows_open _ last_order in
+                  let finds = does_find response on_two tasks own 1 3 (of_three 2 2 5 3 3 6) split found on stepped.1 (lit≤ tt) (within_from tasks (of_three 2 2 5 2 2 5) last_inside) last_open last_lows_open _ last_order in
                   (stepped.0, (finds.0, finds.1, finds.2, finds.3)),
             ),
           ),
@@ -102,6 +102,6 @@ found_at_once t before begun room r is has one other begins =
       did.0,
       λ r found steps.
           let stepped = stepped_on response t own begun found r on.runs on.kept steps in
-          let finds = does_find response t lone own 0 1 five begun found on stepped.1 (lit≤ tt) (lone_open t) (lone_open t) _ (lone_order t) in
+          let finds = does_find response t lone own 0 1 five begun found on stepped.1 (lit≤ tt) (within_from lone five lone_inside) (lone_open t) (lone_open t) _ (lone_order t) in
           (stepped.0, (finds.0, finds.1, finds.2, finds.4)),
     )

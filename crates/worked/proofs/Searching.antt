@@ -7,7 +7,7 @@ use Rattle.table.specs.Rows.{view}
 use Rattle.bounds.specs.Questions.{Laws}
 use Rattle.bounds.proofs.Padded.{padded_length}
 use Rattle.orders.specs.declared.range.Range.{Range}
-use Rattle.orders.specs.Ranges.{Open, Closed}
+use Rattle.orders.specs.Ranges.{Within, Open, Closed}
 use Rattle.orders.specs.Assigner.{assigned}
 use Rattle.study.specs.declared.finding.Finding.{Finding}
 use Rattle.study.specs.declared.room.Room.{Room}
@@ -89,14 +89,14 @@ module _ {T : Type 0} (answer : T → List Row → ℕ → List Bool → List �
     ]
 
     -- the list of the lows is open: its order is found
-    pub does_find : 1 ≤ m → Open answer t rows taken → Open answer t rows (lows_of taken) → (order : List ℕ) → assigned answer t rows (lows_of taken) ≡ Some order
+    pub does_find : 1 ≤ m → Within rows (lows_of taken) → Open answer t rows taken → Open answer t rows (lows_of taken) → (order : List ℕ) → assigned answer t rows (lows_of taken) ≡ Some order
         → (f : Finding) × (after.study.state ≡ state.Found f) × (take (length rows) f.order ≡ order) × (f.estimates ≡ taken.lows) × (after.study.ledger ≡ n)
-    does_find waits opens below order is =
+    does_find waits within opens below order is =
         elim did [
           | none nothing ends ↦ absurd (omega (arith, nothing, on.pending, waits))
           | keeps grown some closed grows left leaves ↦ absurd (not_closed on (λ x. x) opens closed)
           | full some closed lacks ends ↦ absurd (not_closed on (λ x. x) opens closed)
-          | finds f some opened found ends ↦ let this = known on (λ rs x. Finds answer t rs x f) found in (f, ends.state, same_Some _ _ (sym this.0.0 ∙ is), this.1, ends.ledger ∙ on.ledger)
+          | finds f some opened found ends ↦ let this = known on (λ rs x. Finds answer t rs x f) found in (f, ends.state, same_Some _ _ (sym (this.0.1 within).0 ∙ is), this.1, ends.ledger ∙ on.ledger)
           | splits u some opened closed grows left enough leaves ↦ absurd (not_closed on lows_of below closed)
           | stops u some opened closed grows lacks ends ↦ absurd (not_closed on lows_of below closed)
         ]

@@ -16,20 +16,23 @@ use Rattle.study.specs.Slots.{slot}
 use Rattle.study.specs.Moments.{Moment}
 use Rattle.worked.specs.Searches.{BeginsTo, StepsTo}
 
--- the tasks: a and b are 2/5/5 (wcet, period, deadline), c is 3/6/6
+-- the tasks a and b are 2/5/5 (wcet, period, deadline)
 abbrev pub a : Row
 a = record { wcet = 2; period = 5; deadline = 5; ok = (lit≤ tt, lit≤ tt, lit≤ tt, lit≤ tt) }
 
+-- the task c is 3/6/6
 abbrev pub c : Row
 c = record { wcet = 3; period = 6; deadline = 6; ok = (lit≤ tt, lit≤ tt, lit≤ tt, lit≤ tt) }
 
+-- the worked table: a, b and c
 abbrev pub tasks : List Row
 tasks = a ∷ (a ∷ (c ∷ []))
 
--- the set of the tasks above c: only a, and both a and b
+-- only a is above
 abbrev pub only_a : List Bool
 only_a = put (replicate 32 false) 1 true
 
+-- a and b are above
 abbrev pub a_and_b : List Bool
 a_and_b = put only_a 2 true
 

@@ -5,7 +5,7 @@ ghost use Rattle.bounds.specs.Made.{MadeDa};
 ghost use Rattle.bounds.specs.DaLaws.{da_laws};
 
 use super::Da;
-use crate::load::within;
+use crate::load::timely;
 use crate::posed::Posed;
 use crate::processors::Processors;
 use crate::question::Question;
@@ -51,6 +51,6 @@ impl Test for Da {
         let q = q.posed()?;
         let own = q.own();
         let bound = own.wcet() + load_above(&q) / self.processors.count();
-        within(own.deadline(), bound)
+        timely(own.deadline(), bound)
     }
 }

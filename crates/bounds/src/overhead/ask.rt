@@ -2,11 +2,11 @@
 ghost use Rattle.std.specs.Prelude.{◌≡◌, ◌+◌, ◌≤◌};
 ghost use Rattle.table.specs.Rows.{row, Names};
 ghost use Rattle.bounds.specs.Overheads.{over, MadeOverhead};
-ghost use Rattle.bounds.specs.Questions.{capped};
+ghost use Rattle.bounds.specs.Questions.{timely as timely_bound};
 ghost use Rattle.bounds.specs.OverLaws.{over_laws};
 
 use super::Overhead;
-use crate::load::within;
+use crate::load::timely;
 use crate::question::Question;
 use crate::test::Test;
 use table::fault::{Fault, Place};
@@ -16,12 +16,12 @@ use table::row::Row;
 const MOST: u32 = 1_000_000;
 
 impl<T: Drop> Overhead<T> {
-    /// An overhead of `extra` over a test.
-    pub fn new(extra: u32, below: T) -> Result<Overhead<T>, Fault>
-        ensures { MadeOverhead extra below result }
+    /// An overhead of `added` over a test.
+    pub fn new(added: u32, below: T) -> Result<Overhead<T>, Fault>
+        ensures { MadeOverhead added below result }
     {
-        if extra <= MOST {
-            Ok(Overhead { extra, below })
+        if added <= MOST {
+            Ok(Overhead { added, below })
         } else {
             Err(Fault::BadTest(Place::NOWHERE))
         }
@@ -29,21 +29,21 @@ impl<T: Drop> Overhead<T> {
 }
 
 // The bound with the number added, or none past the task's deadline.
-fn add_within(rows: &[Row], task: usize, bound: u32, extra: u32) -> Option<u32>
+fn add_within(rows: &[Row], task: usize, bound: u32, added: u32) -> Option<u32>
     requires names { Names rows.now task }
-    requires low { (bound ≤ 1000000) × (extra ≤ 1000000) }
-    ensures { result ≡ capped (row rows.now task).deadline (bound + extra) }
+    requires low { (bound ≤ 1000000) × (added ≤ 1000000) }
+    ensures { result ≡ timely_bound (row rows.now task).deadline (bound + added) }
 {
-    within(rows[task - 1].deadline(), bound + extra)
+    timely(rows[task - 1].deadline(), bound + added)
 }
 
 impl<T: Test> Test for Overhead<T> {
-    ghost answer = { λ o rows i s e. over o.extra rows i (T.Test.answer o.below rows i s e) };
+    ghost answer = { λ o rows i s e. over o.added rows i (T.Test.answer o.below rows i s e) };
 
     ghost kept = { over_laws T.Test.kept };
 
     fn ask(&self, q: &Question<'_>) -> Option<u32> {
         let bound = self.below.ask(q)?;
-        add_within(q.table.rows(), q.task, bound, self.extra)
+        add_within(q.table.rows(), q.task, bound, self.added)
     }
 }

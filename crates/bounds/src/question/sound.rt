@@ -2,7 +2,7 @@
 ghost use Rattle.std.specs.Prelude.{◌≡◌, ◌+◌, ◌<◌, ◌↔◌, IsTrue};
 ghost use Rattle.table.specs.Rows.{view};
 ghost use Rattle.bounds.specs.Posing.{Poses};
-ghost use Rattle.bounds.specs.Questions.{SoundQuestion, fitsb};
+ghost use Rattle.bounds.specs.Questions.{SoundQuestion, sound_atb};
 
 use super::Question;
 use crate::posed::Posed;
@@ -10,9 +10,9 @@ use crate::posed::Posed;
 impl<'a> Question<'a> {
     // Whether the row at a place has a sound estimate, and what is no row is not above. The place is the index of an
     // array of 32 and nothing more: a type for it would be no plainer.
-    fn fits_at(&self, place: usize) -> bool
+    fn sound_at(&self, place: usize) -> bool
         requires { place < 32 }
-        ensures { result ≡ fitsb (view self.now.table.now) self.now.above.now self.now.estimates.now (place + 1) }
+        ensures { result ≡ sound_atb (view self.now.table.now) self.now.above.now self.now.estimates.now (place + 1) }
     {
         match self.table.rows().get(place) {
             Some(row) => row.spans(self.estimates[place], self.estimates[place]),
@@ -28,7 +28,7 @@ impl<'a> Question<'a> {
         if task == 0 || task > self.table.len() || self.above[task - 1] {
             return false;
         }
-        (0..32).all(|place| self.fits_at(place))
+        (0..32).all(|place| self.sound_at(place))
     }
 
     // The question on its rows, if it is sound.

@@ -1,7 +1,7 @@
 // The ends of a closed range, moved out while it stays closed.
 ghost use Rattle.std.specs.Prelude.{◌≡◌, ◌+◌, ◌<◌, ◌≤◌, length, IfSome, IfNone};
 ghost use Rattle.table.specs.Rows.{view};
-ghost use Rattle.orders.specs.Growth.{moved as moved_out, span as span_of, EndGrown};
+ghost use Rattle.orders.specs.Growth.{moved as moved_out, reach as reach_of, EndGrown};
 ghost use Rattle.orders.specs.Ranges.{Within, Closed};
 
 use super::ClosedRange;
@@ -29,9 +29,9 @@ impl<'a, T: Test> ClosedRange<'a, T> {
     // How far an end of the row at a place may be moved out. End and place stay two parameters: a type that
     // says that the place is of this table would carry the table again. Two arms for two ends are as plain
     // as closures.
-    fn span(&self, end: End, place: usize) -> u32
+    fn reach(&self, end: End, place: usize) -> u32
         requires { place < length (view self.now.table.now) }
-        ensures { result ≡ span_of end (view self.now.table.now) self.now.range (place + 1) }
+        ensures { result ≡ reach_of end (view self.now.table.now) self.now.range (place + 1) }
     {
         let row = self.table.rows()[place];
         match end {
@@ -43,7 +43,7 @@ impl<'a, T: Test> ClosedRange<'a, T> {
     // The range with an end of the row at a place moved out.
     fn moved(&self, end: End, place: usize, by: u32) -> Range
         requires place { place < length (view self.now.table.now) }
-        requires short { by ≤ span_of end (view self.now.table.now) self.now.range (place + 1) }
+        requires short { by ≤ reach_of end (view self.now.table.now) self.now.range (place + 1) }
         ensures { result ≡ moved_out end self.now.range (place + 1) by }
     {
         let mut range = self.range;
@@ -64,8 +64,12 @@ impl<'a, T: Test> ClosedRange<'a, T> {
             EndGrown T.answer self.entry.test.now rows end self.entry.range (place + 1) result.range }
     {
         let mut grown = self;
-        let mut room = grown.span(end, place);
-        while room > 0 {
+        let mut room = grown.reach(end, place);
+        // A room is below 2^20, and each round leaves at most half of it.
+        for _round in 0..20u32 {
+            if room == 0 {
+                return grown;
+            }
             let step = room.div_ceil(2);
             let wider = grown.moved(end, place, step);
             match ClosedRange::new(grown.test, grown.table, wider) {

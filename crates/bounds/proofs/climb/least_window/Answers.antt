@@ -1,8 +1,8 @@
-use Rattle.std.proofs.Common.{◌≡◌, ◌*◌, sym, ap, subst, arith}
+use Rattle.std.proofs.Common.{◌≡◌, ◌*◌, sym, ap, arith}
 use Rattle.bounds.specs.Posing.{own_row}
 use Rattle.bounds.specs.Climbs.{load_of}
 use Rattle.bounds.proofs.Helds.{never_falls}
-use Rattle.bounds.proofs.Skips.{Passed, passed_all, turn_found, turn_passed}
+use Rattle.bounds.proofs.Skips.{passed_all, turn_found, turn_passed}
 use Rattle.bounds.proofs.climb.least_window.Goals as goal
 
 pub returns-then-tally-count-clause-found : goal.returns-then-tally-count-clause-found
@@ -23,11 +23,12 @@ pub loop-cap-preserved : goal.loop-cap-preserved
 loop-cap-preserved c =
     let q = c.args.q.now in
     let load = load_of c.args.limit q in
-    let wcet : c.wcet-wcet.result ≡ (own_row q).wcet = cc in (
-      omega (arith, c.next_cap-cap.ensures.next),
-      subst (Passed c.args.m.count (own_row q) load) (sym c.next_cap-cap.ensures.next)
-          (turn_passed c.args.m.count (omega (arith, c.args.m.ok)) (own_row q) load c.loop-cap.cap c.loop-cap.invariant.0 c.loop-cap.invariant.1
-          c.wcet-wcet.result wcet c.held_loads-held.result c.of-tally.result c.held_loads-held.ensures c.of-tally.ensures.sums),
+    let wcet : c.wcet-wcet.result ≡ (own_row q).wcet = cc in
+    let next = c.next_cap-cap.ensures in (
+      omega (arith, next.rises 0 (omega arith)),
+      turn_passed c.args.m.count (omega (arith, c.args.m.ok)) (own_row q) load c.loop-cap.cap c.loop-cap.invariant.0 c.loop-cap.invariant.1
+          c.wcet-wcet.result wcet c.held_loads-held.result c.of-tally.result c.held_loads-held.ensures c.of-tally.ensures.sums
+          c.next_cap-cap.result (next.skips c.held_loads-held.result c.loop-cap.cap c.of-tally.ensures.sums),
     )
 
 pub returns-clause-found : goal.returns-clause-found

@@ -6,7 +6,7 @@ use Rattle.std.proofs.lemmas.Iterator.{YieldsList-from_range}
 use Rattle.std.proofs.lemmas.Iterator.Search.{all_from_yields_List}
 use Rattle.table.specs.Rows.{view}
 use Rattle.table.proofs.Placed.{nth_at}
-use Rattle.bounds.specs.Questions.{fitsb}
+use Rattle.bounds.specs.Questions.{sound_atb}
 use Rattle.bounds.specs.Sounds.{sound_decides}
 use Rattle.bounds.proofs.Sounding.{all_places, sound_by_places}
 use Rattle.bounds.proofs.question.Question.is_sound.Goals as goal
@@ -26,11 +26,11 @@ pub returns : goal.returns
 returns c =
     let q = c.args.self.now in
     let rows = view q.table.now in
-    let fits = fitsb rows q.above.now q.estimates.now in
+    let sound = sound_atb rows q.above.now q.estimates.now in
     Decides-at _ _
     (
-    all_from_yields_List (λ place. fits (place + 1)) _ _ c.all.result c.all.ensures.ran (YieldsList-from_range 0 32 32 refl refl) (λ x b q k. search (rules, tests))
-    ∙ all_places fits 32
+    all_from_yields_List (λ place. sound (place + 1)) _ _ c.all.result c.all.ensures.ran (YieldsList-from_range 0 32 32 refl refl) (λ x b q k. search (rules, tests))
+    ∙ all_places sound 32
     ∙ sound_by_places rows q.task q.above.now q.estimates.now (omega arith) (omega arith, omega arith) c.if-self-task.false
     )
     (sound_decides rows q.task q.above.now q.estimates.now)

@@ -2,14 +2,14 @@ use Rattle.std.proofs.Common.{◌+◌, ◌-◌, ◌≤◌, ap, arith}
 use Rattle.table.specs.Rows.{row, view}
 use Rattle.table.proofs.Placed.{nth_next}
 use Rattle.orders.specs.declared.end.End.TheVariants.{Low, High}
-use Rattle.orders.specs.Growth.{span}
+use Rattle.orders.specs.Growth.{reach}
 use Rattle.orders.proofs.Puts.{put_written}
 use Rattle.orders.proofs.closed.ClosedRange.moved.Goals as goal
 
 pub overflow_sub-range : goal.overflow_sub-range
 overflow_sub-range g c =
     let s = c.args.self.now in
-    let short : c.args.by ≤ span Low (view s.table.now) s.range (c.args.place + 1) = rw c.in-Low.is at c.requires.short in
+    let short : c.args.by ≤ reach Low (view s.table.now) s.range (c.args.place + 1) = rw c.in-Low.is at c.requires.short in
     omega (arith, nth_next s.range.lows c.args.place 0)
 
 pub overflow_add-range : goal.overflow_add-range
@@ -17,7 +17,7 @@ overflow_add-range g c =
     let s = c.args.self.now in
     let rows = view s.table.now in
     let k = c.args.place + 1 in
-    let short : c.args.by ≤ span High rows s.range k = rw c.in-High.is at c.requires.short in
+    let short : c.args.by ≤ reach High rows s.range k = rw c.in-High.is at c.requires.short in
     let w = s.within k (omega arith, omega (arith, c.requires.place)) in
     omega (arith, nth_next s.range.highs c.args.place 0, w.2, (row rows k).ok)
 

@@ -18,7 +18,7 @@ pub returns : goal.returns
 returns c =
     let m = c.args.self.now.processors.count in
     let q = c.in_ok-q.q in
-    c.within.ensures
+    c.timely.ensures
     ∙ da_read m q.rows.now q.task q.above.now q.estimates.now c.own-own.result c.wcet.result c.deadline.result c.load_above.result c.count.result
     q.sound (sym c.own-own.ensures) c.wcet.ensures c.deadline.ensures c.load_above.ensures c.count.ensures
     ∙ posed_same (da m) c.args.q.now q c.in_ok-q.ensures

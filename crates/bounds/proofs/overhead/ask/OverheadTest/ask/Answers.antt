@@ -1,7 +1,7 @@
 use Rattle.std.proofs.Common.{◌+◌, sym, ap, ◌∙◌, subst, arith}
 use Rattle.table.specs.Rows.{row, view, Names}
 use Rattle.bounds.specs.Overheads.{over}
-use Rattle.bounds.specs.Questions.{capped}
+use Rattle.bounds.specs.Questions.{timely}
 use Rattle.bounds.proofs.overhead.ask.OverheadTest.ask.Goals as goal
 
 -- a bound from below says that the question is sound, and lies within the deadline
@@ -18,8 +18,8 @@ add_within-requires g c =
 pub returns : goal.returns
 returns g c =
     let q = c.args.q.now in
-    let x = c.args.self.now.extra in
+    let x = c.args.self.now.added in
     let bound = c.in_ok-bound.bound in
     c.add_within.ensures
-    ∙ ap (λ rows. capped (row rows q.task).deadline (bound + x)) c.rows.ensures.value
+    ∙ ap (λ rows. timely (row rows q.task).deadline (bound + x)) c.rows.ensures.value
     ∙ ap (over x (view q.table.now) q.task) c.in_ok-bound.ensures

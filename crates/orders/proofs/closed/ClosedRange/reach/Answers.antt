@@ -1,6 +1,6 @@
 use Rattle.std.proofs.Common.{arith}
 use Rattle.orders.proofs.Moves.{room_low, room_high}
-use Rattle.orders.proofs.closed.ClosedRange.span.Goals as goal
+use Rattle.orders.proofs.closed.ClosedRange.reach.Goals as goal
 
 pub overflow_sub-result : goal.overflow_sub-result
 overflow_sub-result g c =
