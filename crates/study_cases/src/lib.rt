@@ -10,6 +10,8 @@ mod tests {
     use std::array;
     use std::process::Abort;
     use std::test::Fail;
+    use study::call::Call;
+    use study::edit::Edit;
     use study::finding::Finding;
     use study::room::Room;
     use study::state::State;
@@ -777,6 +779,141 @@ mod tests {
             };
             assert_eq!(rt; study.state(), State::Running(room));
         }
+        Ok(())
+    }
+
+    #[test]
+    fn refuses_a_step_unless_a_search_is_running(rt: HostRuntime) -> Result<(), Fail> {
+        let test = rta(2)?;
+        for lent in in_each_state()? {
+            let mut lent = lent;
+            let before = lent.all();
+            if let State::Running(_) = before.seen.state {
+                continue;
+            }
+            let step = lent.study.step(&test, &mut lent.ledger, &mut lent.pending);
+            is_refused(&rt, step, Fault::NotRunning, 15, Layer::Study);
+            assert!(rt; lent.all() == before);
+        }
+        Ok(())
+    }
+
+    // Foreign numbers in the pending slot: by place, what is written there.
+    const FOREIGN_NUMBERS: [(usize, u32); 8] = [
+        // a's low below its wcet, and above its high
+        (0, 1),
+        (0, 6),
+        // b's high below its low, and above its deadline
+        (33, 1),
+        (33, 6),
+        // c's low above its high
+        (2, 7),
+        // no row has these places
+        (3, 1),
+        (31, 1),
+        (63, 1),
+    ];
+
+    #[test]
+    fn refuses_a_step_on_foreign_numbers(rt: HostRuntime) -> Result<(), Fail> {
+        let test = rta(2)?;
+        for &(place, number) in &FOREIGN_NUMBERS {
+            let mut lent = running()?;
+            let own = lent.pending[place.min(511)];
+            lent.pending[place.min(511)] = number;
+            let before = lent.all();
+            let step = lent.study.step(&test, &mut lent.ledger, &mut lent.pending);
+            is_refused(&rt, step, Fault::OtherLists, 16, Layer::Study);
+            assert!(rt; lent.all() == before);
+            lent.pending[place.min(511)] = own;
+            lent.study.step(&test, &mut lent.ledger, &mut lent.pending)?;
+            assert_eq!(rt; lent.study.steps(), 1);
+        }
+        Ok(())
+    }
+
+    #[test]
+    fn refuses_a_step_on_lists_of_other_lengths(rt: HostRuntime) -> Result<(), Fail> {
+        let test = rta(2)?;
+        let mut lent = running()?;
+        let before = lent.all();
+        for length in [0, 64, 448, 511] {
+            let ledger = &mut lent.ledger[..length.min(512)];
+            let step = lent.study.step(&test, ledger, &mut lent.pending);
+            is_refused(&rt, step, Fault::OtherLists, 16, Layer::Study);
+            let pending = &mut lent.pending[..length.min(512)];
+            let step = lent.study.step(&test, &mut lent.ledger, pending);
+            is_refused(&rt, step, Fault::OtherLists, 16, Layer::Study);
+        }
+        assert!(rt; lent.all() == before);
+        Ok(())
+    }
+
+    // The calls as data do what the methods do.
+    #[test]
+    fn takes_calls(rt: HostRuntime) -> Result<(), Fail> {
+        let test = rta(2)?;
+        let mut lent = lend(&[])?;
+        let calls = [
+            Call::Edit(Edit::Add {
+                wcet: 2,
+                period: 5,
+                deadline: 5,
+            }),
+            Call::Edit(Edit::Add {
+                wcet: 1,
+                period: 4,
+                deadline: 4,
+            }),
+            Call::Edit(Edit::Add {
+                wcet: 3,
+                period: 6,
+                deadline: 6,
+            }),
+            Call::Edit(Edit::Add {
+                wcet: 9,
+                period: 9,
+                deadline: 9,
+            }),
+            Call::Edit(Edit::Alter {
+                k: 2,
+                wcet: 2,
+                period: 5,
+                deadline: 5,
+            }),
+            Call::Edit(Edit::Remove { k: 4 }),
+            Call::Begin,
+            Call::Step,
+            Call::Step,
+        ];
+        for call in calls {
+            lent.study
+                .call(call, &test, &mut lent.ledger, &mut lent.pending)?;
+        }
+        let wanted = after_search(&WORKED, 2, 8)?;
+        assert!(rt; lent.all() == wanted.all());
+        Ok(())
+    }
+
+    // The first step does one step's work, and so does the second.
+    #[test]
+    fn steps_one_at_a_time(rt: HostRuntime) -> Result<(), Fail> {
+        let test = rta(2)?;
+        let mut lent = running()?;
+        lent.study.step(&test, &mut lent.ledger, &mut lent.pending)?;
+        let seen = see(&lent.study);
+        assert_eq!(rt;
+            seen.state,
+            State::Running(Room {
+                ledger: 8,
+                pending: 8
+            })
+        );
+        assert_eq!(rt; (seen.ledger, seen.pending, seen.steps), (1, 3, 1));
+        lent.study.step(&test, &mut lent.ledger, &mut lent.pending)?;
+        assert_eq!(rt; see(&lent.study), see(&after_search(&WORKED, 2, 8)?.study));
+        let found = lent.study.state().finding();
+        assert_eq!(rt; found.map(|finding| finding.order[0]), Some(2));
         Ok(())
     }
 }
