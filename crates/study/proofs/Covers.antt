@@ -1,5 +1,5 @@
 -- The pieces of a taken range are ranges of the table, and with U they cover it.
-use Rattle.std.proofs.Common.{◌≡◌, ℕ, zero, suc, ◌+◌, ◌-◌, ◌≤◌, ◌<◌, min, List, [], ◌∷◌, ◌++◌, ◌⊎◌, length, get_or, sym, refl, ap, subst, ◌∙◌, inl, inr, add-one, arith}
+use Rattle.std.proofs.Common.{◌≡◌, ℕ, zero, suc, ◌+◌, ◌≤◌, ◌<◌, min, List, [], ◌∷◌, ◌++◌, ◌⊎◌, length, get_or, sym, refl, ap, subst, ◌∙◌, inl, inr, add-one, arith}
 use Rattle.std.proofs.lemmas.Bool.{cases_lt, cases_eq}
 use Rattle.std.proofs.lemmas.List.{get_or_append_left, get_or_push, length-append}
 use Rattle.table.specs.declared.row.Row.{Row}
@@ -9,7 +9,7 @@ use Rattle.table.proofs.Placed.{nth_put_same, nth_put_other}
 use Rattle.orders.specs.declared.range.Range.{Range}
 use Rattle.orders.specs.Ranges.{low, high, as_range, LiesIn}
 use Rattle.study.specs.Pieces.{cut, piece, pieces}
-use Rattle.study.specs.Steps.{ZeroPast, IsSlot}
+use Rattle.study.specs.Steps.{IsSlot}
 use Rattle.study.proofs.Overs.{Full}
 use Rattle.study.proofs.Pieced.{cut_length, pieces_none, pieces_given, pieces_not}
 

@@ -1,23 +1,19 @@
 -- A search on its way: what it keeps between its steps.
-use Rattle.std.proofs.Common.{◌≡◌, ℕ, suc, ◌+◌, ◌*◌, ◌/◌, ◌≤◌, ◌<◌, Bool, true, false, ◌⊎◌, List, length, Ok, Err, Result, IfOk, IfErr, IsErr, Option, sym, refl, ap, subst, ◌∙◌, inl, inr, arith}
+use Rattle.std.proofs.Common.{◌≡◌, ℕ, ◌+◌, ◌*◌, ◌/◌, ◌≤◌, Bool, true, false, ◌⊎◌, List, length, Ok, Err, Result, IsErr, Option, sym, refl, ap, subst, ◌∙◌, inl, inr, arith}
 use Rattle.std.proofs.lemmas.Bool.{cases_lt, cases_eq, false≢true}
 use Rattle.table.specs.declared.row.Row.{Row}
 use Rattle.table.specs.declared.fault.Fault.{Fault}
 use Rattle.table.specs.declared.fault.Fault.TheVariants.{Empty, BadSlots}
 use Rattle.bounds.specs.Questions.{Laws}
 use Rattle.study.specs.declared.room.Room.{Room}
-use Rattle.study.specs.declared.finding.Finding.{Finding}
-use Rattle.study.specs.declared.study.Study.{Study}
-use Rattle.study.specs.declared.state.State.{State}
-use Rattle.study.specs.declared.state.State.TheVariants as state
 use Rattle.study.specs.Counts.{verdicts}
 use Rattle.study.specs.Slots.{HasSlots}
 use Rattle.study.specs.Moments.{Moment, moment, rows_of}
 use Rattle.study.specs.Begins.{HasRoom, Begins}
-use Rattle.study.specs.Steps.{Runs, AsLeft, Leaves, Stepped, Steps, none, keeps, full, finds, splits, stops}
-use Rattle.study.specs.Histories.{Tally, other, Means, Promise, History, begin, no_begin, step}
-use Rattle.study.specs.Searches.{Leads, begins, steps, Searched, Searches, SearchPromise}
-use Rattle.study.proofs.Lawful.{room_of, KeepsAt, Told, begun_keeps, told_begun, stepped_keeps, told_stepped, begin_accepted, begin_refused, step_accepted, counted_running, ok≢err, ready, means, law}
+use Rattle.study.specs.Steps.{Runs, Stepped, Steps, none, keeps, full, finds, splits, stops}
+use Rattle.study.specs.Histories.{Tally, other, Promise, History, begin, no_begin, step}
+use Rattle.study.specs.Searches.{Leads, begins, steps, Searches, SearchPromise}
+use Rattle.study.proofs.Lawful.{room_of, KeepsAt, Told, begun_keeps, told_begun, stepped_keeps, told_stepped, begin_accepted, begin_refused, step_accepted, counted_running, ok≢err, ready, law}
 
 abbrev tally_at : Room → ℕ → Bool → Tally
 tally_at room n stepped = record { slots = room.ledger; steps = n; stepped = stepped }

@@ -1,5 +1,5 @@
 -- The law over all histories, by one induction.
-use Rattle.std.proofs.Common.{◌≡◌, ℕ, ◌+◌, ◌-◌, ◌*◌, ◌≤◌, ◌<◌, Bool, true, false, ◌⊎◌, List, length, take, Ok, Err, Result, IfOk, IfErr, is_ok, Option, sym, refl, ap, subst, ◌∙◌, inl, inr, arith}
+use Rattle.std.proofs.Common.{◌≡◌, ℕ, ◌+◌, ◌≤◌, Bool, true, false, ◌⊎◌, List, length, take, Ok, Err, Result, IfOk, IfErr, is_ok, Option, sym, refl, ap, subst, ◌∙◌, inl, inr, arith}
 use Rattle.std.proofs.lemmas.Bool.{false≢true, cases_lt}
 use Rattle.table.specs.declared.row.Row.{Row}
 use Rattle.table.specs.declared.fault.Fault.{Fault}
@@ -16,11 +16,11 @@ use Rattle.study.specs.declared.finding.Finding.{Finding}
 use Rattle.study.specs.declared.state.State.{State}
 use Rattle.study.specs.declared.state.State.TheVariants as state
 use Rattle.study.specs.Counts.{verdicts, Counted}
-use Rattle.study.specs.Calls.{IsNew, IsDraft, EditsBy}
+use Rattle.study.specs.Calls.{IsDraft, EditsBy}
 use Rattle.study.specs.Moments.{Moment, moment, rows_of}
 use Rattle.study.specs.Begins.{HasRoom, Begun, Begins}
 use Rattle.study.specs.Steps.{Runs, AsLeft, Leaves, Stepped, Steps, none, keeps, full, finds, splits, stops}
-use Rattle.study.specs.Histories.{Tally, none_begun, begun, one_more, other, Means, Promise, StepPromise, History, Law, start, edit, begin, no_begin, step, no_step}
+use Rattle.study.specs.Histories.{Tally, begun, one_more, other, Means, Promise, StepPromise, History, Law, start, edit, begin, no_begin, step, no_step}
 use Rattle.study.proofs.Sought.{Holding, AllBarred, Sought, sought_kept, sought_split, slot_full}
 use Rattle.study.proofs.Standing.{finding_holds, every_late}
 use Rattle.study.proofs.Started.{sought_begun}

@@ -1,14 +1,14 @@
 -- The pieces of a taken range, row by row, and the slots that they are written into.
-use Rattle.std.proofs.Common.{◌≡◌, ℕ, zero, suc, ◌+◌, ◌-◌, ◌*◌, ◌≤◌, ◌<◌, min, nat_lt, List, [], ◌∷◌, ◌++◌, length, get_or, set, refl, sym, ap, ap₂, subst, ◌∙◌, inl, inr, add-one, arith}
+use Rattle.std.proofs.Common.{◌≡◌, ℕ, zero, suc, ◌+◌, ◌-◌, ◌≤◌, ◌<◌, min, List, [], ◌∷◌, ◌++◌, length, get_or, set, refl, sym, ap, ap₂, subst, ◌∙◌, inl, inr, add-one, arith}
 use Rattle.std.proofs.lemmas.Bool.{cases_lt, cond-true, cond-false, lt-ltb, le-ltb}
-use Rattle.std.proofs.lemmas.List.{append_assoc, length-append, length-set}
+use Rattle.std.proofs.lemmas.List.{length-append, length-set}
 use Rattle.table.specs.Places.{nth, put}
-use Rattle.table.proofs.Placed.{nth_next, put_next}
+use Rattle.table.proofs.Placed.{nth_next}
 use Rattle.orders.specs.declared.range.Range.{Range}
 use Rattle.orders.specs.Ranges.{high}
 use Rattle.study.specs.Slots.{put_slot}
 use Rattle.study.specs.Pieces.{cut, piece, pieces, put_slots}
-use Rattle.study.proofs.Overs.{Full, put_slot_length}
+use Rattle.study.proofs.Overs.{Full}
 
 module _ (taken u : Range) where
   pub cut_none : cut taken u 0 ≡ taken.highs

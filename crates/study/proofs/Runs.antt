@@ -1,5 +1,5 @@
 -- Ranges written into slots one after another.
-use Rattle.std.proofs.Common.{◌≡◌, ℕ, zero, suc, ◌+◌, ◌-◌, ◌*◌, ◌≤◌, ◌<◌, List, [], ◌∷◌, ◌⊎◌, length, get_or, sym, refl, ap, ◌∙◌, inl, inr, arith}
+use Rattle.std.proofs.Common.{◌≡◌, ℕ, zero, suc, ◌+◌, ◌-◌, ◌*◌, ◌≤◌, ◌<◌, List, [], ◌∷◌, ◌⊎◌, length, get_or, refl, ap, ◌∙◌, inl, inr, arith}
 use Rattle.orders.specs.declared.range.Range.{Range}
 use Rattle.study.specs.Slots.{slot, put_slot}
 use Rattle.study.specs.Pieces.{put_slots}

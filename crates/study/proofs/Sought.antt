@@ -1,16 +1,14 @@
 -- What a running search keeps, and how a step keeps it.
-use Rattle.std.proofs.Common.{◌≡◌, ℕ, suc, ◌+◌, ◌-◌, ◌*◌, ◌≤◌, ◌<◌, Bool, ◌⊎◌, List, length, take, drop, get_or, Some, None, Option, sym, refl, ap, ap₂, subst, ◌∙◌, inl, inr, arith}
+use Rattle.std.proofs.Common.{◌≡◌, ℕ, suc, ◌+◌, ◌-◌, ◌*◌, ◌≤◌, ◌<◌, Bool, ◌⊎◌, List, length, drop, get_or, Option, sym, ap, subst, ◌∙◌, inl, inr, arith}
 use Rattle.std.proofs.lemmas.Bool.{cases_lt, cases_eq}
 use Rattle.std.proofs.lemmas.List.{length-take, length-drop}
 use Rattle.table.specs.declared.row.Row.{Row}
-use Rattle.table.specs.Places.{nth, put}
-use Rattle.table.specs.Rows.{row, Names}
 use Rattle.table.proofs.Placed.{length_put}
 use Rattle.bounds.specs.Questions.{Laws}
-use Rattle.bounds.specs.Orders.{Order, Estimates, Holds, HasLate}
+use Rattle.bounds.specs.Orders.{Estimates}
 use Rattle.orders.specs.declared.range.Range.{Range}
-use Rattle.orders.specs.Ranges.{low, high, as_range, Within, Contains, Wider, LiesIn, Open, Closed}
-use Rattle.orders.specs.Growth.{LowGrown, HighGrown, GrownTo, start, next, Maximal}
+use Rattle.orders.specs.Ranges.{low, high, LiesIn, Closed}
+use Rattle.orders.specs.Growth.{GrownTo, start, next, Maximal}
 use Rattle.orders.proofs.Grows.{grown_maximal}
 use Rattle.study.specs.declared.room.Room.{Room}
 use Rattle.study.specs.Slots.{slot, put_slot}

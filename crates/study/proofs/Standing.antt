@@ -1,10 +1,9 @@
 -- What a verdict rests on: the order that is found passes, and ranges that cover every list of estimates leave no order that holds.
-use Rattle.std.proofs.Common.{◌≡◌, ℕ, ◌+◌, ◌-◌, ◌≤◌, ◌<◌, min, Bool, ◌⊎◌, List, length, take, get_or, Some, None, Option, sym, refl, ap, ap₂, subst, ◌∙◌, inl, inr, arith}
+use Rattle.std.proofs.Common.{◌≡◌, ℕ, ◌+◌, ◌-◌, ◌≤◌, ◌<◌, Bool, List, length, take, Some, Option, sym, ap, subst, ◌∙◌, inl, inr, arith}
 use Rattle.std.proofs.lemmas.Bool.{cases_lt}
 use Rattle.std.proofs.lemmas.List.{ext_get_or, length-take, get_or-take, get_or_past}
 use Rattle.table.specs.declared.row.Row.{Row}
 use Rattle.table.specs.Places.{nth}
-use Rattle.table.specs.Rows.{row, Names}
 use Rattle.table.proofs.Placed.{nth_at, nth_next}
 use Rattle.bounds.specs.Questions.{Laws}
 use Rattle.bounds.specs.Orders.{Order, Estimates, Holds, HasLate, padded}

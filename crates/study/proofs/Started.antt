@@ -1,5 +1,5 @@
 -- What a search keeps when it has begun.
-use Rattle.std.proofs.Common.{◌≡◌, ℕ, ◌+◌, ◌-◌, ◌*◌, ◌≤◌, ◌<◌, Bool, List, map, length, get_or, Option, sym, ap, subst, ◌∙◌, inl, inr, arith}
+use Rattle.std.proofs.Common.{◌≡◌, ℕ, ◌-◌, ◌*◌, ◌≤◌, Bool, List, map, length, Option, sym, subst, ◌∙◌, inl, inr, arith}
 use Rattle.std.proofs.lemmas.Bool.{cases_lt}
 use Rattle.std.proofs.lemmas.List.{get_or_past, length-map}
 use Rattle.table.specs.declared.row.Row.{Row}
@@ -9,8 +9,7 @@ use Rattle.table.proofs.Placed.{nth_at}
 use Rattle.bounds.specs.Orders.{padded, Estimates}
 use Rattle.bounds.proofs.Padded.{padded_length, padded_read, padded_at}
 use Rattle.bounds.proofs.Wcets.{column_at}
-use Rattle.orders.specs.declared.range.Range.{Range}
-use Rattle.orders.specs.Ranges.{as_range, LiesIn}
+use Rattle.orders.specs.Ranges.{LiesIn}
 use Rattle.study.specs.declared.room.Room.{Room}
 use Rattle.study.specs.Slots.{slot, put_slot}
 use Rattle.study.specs.Begins.{whole}

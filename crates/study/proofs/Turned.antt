@@ -1,9 +1,9 @@
 -- What the assigner's answers say of a range and of the list of its lows.
-use Rattle.std.proofs.Common.{◌≡◌, ℕ, ◌≤◌, Bool, true, false, List, length, take, Some, None, Option, is_some, MatchOption, arith}
+use Rattle.std.proofs.Common.{◌≡◌, ℕ, Bool, true, List, length, take, Some, None, Option, is_some, arith}
 use Rattle.std.proofs.lemmas.Bool.{false≢true}
 use Rattle.table.specs.declared.row.Row.{Row}
 use Rattle.orders.specs.declared.range.Range.{Range}
-use Rattle.orders.specs.Ranges.{Within, Open, Admits, Closed}
+use Rattle.orders.specs.Ranges.{Within, Open}
 use Rattle.orders.specs.Assigner.{Settles}
 use Rattle.study.specs.Turns.{lows_of}
 

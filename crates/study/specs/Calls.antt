@@ -1,5 +1,5 @@
 -- What each call of a study does.
-use Rattle.std.specs.Prelude.{◌≡◌, ℕ, [], IfOk, IfErr, Result}
+use Rattle.std.specs.Prelude.{◌≡◌, [], IfOk, IfErr, Result}
 use Rattle.table.specs.declared.row.Row.{Row}
 use Rattle.table.specs.declared.rows.Table.{Table as Rows}
 use Rattle.table.specs.declared.fault.Fault.{Fault}

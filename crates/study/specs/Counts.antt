@@ -1,7 +1,6 @@
 -- The states of a study, and its counts.
 use Rattle.std.specs.Prelude.{◌≡◌, ℕ, ◌+◌, ◌≤◌, Some, None, Option}
 use Rattle.study.specs.declared.finding.Finding.{Finding}
-use Rattle.study.specs.declared.room.Room.{Room}
 use Rattle.study.specs.declared.state.State.{State}
 use Rattle.study.specs.declared.state.State.TheVariants as state
 

@@ -1,5 +1,5 @@
 -- What a search does: an accepted begin, and accepted steps until there is a verdict.
-use Rattle.std.specs.Prelude.{◌≡◌, ℕ, ◌+◌, ◌/◌, ◌≤◌, Bool, true, List, length, Ok, Err, Result, IfOk, IfErr, Option}
+use Rattle.std.specs.Prelude.{◌≡◌, ℕ, ◌+◌, ◌/◌, ◌≤◌, Bool, true, List, length, Ok, Result, IfOk, IfErr, Option}
 use Rattle.table.specs.declared.row.Row.{Row}
 use Rattle.table.specs.declared.fault.Fault.{Fault}
 use Rattle.table.specs.declared.fault.Fault.TheVariants.{Empty, BadSlots}
@@ -8,7 +8,7 @@ use Rattle.study.specs.declared.room.Room.{Room}
 use Rattle.study.specs.Counts.{verdicts}
 use Rattle.study.specs.Moments.{Moment, rows_of}
 use Rattle.study.specs.Begins.{Refuses, HasRoom, Begins}
-use Rattle.study.specs.Steps.{Runs, Steps}
+use Rattle.study.specs.Steps.{Steps}
 use Rattle.study.specs.Histories.{Tally, other, Promise}
 
 module _ {T : Type 0} (answer : T → List Row → ℕ → List Bool → List ℕ → Option ℕ) (t : T) where

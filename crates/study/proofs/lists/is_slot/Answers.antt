@@ -1,7 +1,7 @@
-use Rattle.std.proofs.Common.{◌≡◌, ℕ, Bool, IsTrue, ◌↔◌, List, length, sym, ◌∙◌, subst}
+use Rattle.std.proofs.Common.{ℕ, Bool, IsTrue, ◌↔◌, List, length, sym, ◌∙◌, subst}
 use Rattle.std.proofs.lemmas.Bool.{false≢true}
 use Rattle.table.specs.Rows.{view}
-use Rattle.study.specs.Steps.{ZeroPast, IsSlot}
+use Rattle.study.specs.Steps.{ZeroPast}
 use Rattle.study.proofs.lists.is_slot.Goals as goal
 use Rattle.study.proofs.lists.is_slot.Goals.{then-is_range, else-is_range}
 

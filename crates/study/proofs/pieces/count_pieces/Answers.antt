@@ -1,4 +1,4 @@
-use Rattle.std.proofs.Common.{rules, ◌≡◌, ◌+◌, length, ap, sym, ◌∙◌, arith}
+use Rattle.std.proofs.Common.{◌≡◌, length, ap, sym, ◌∙◌, arith}
 use Rattle.study.specs.Pieces.{pieces}
 use Rattle.study.proofs.Pieced.{count_none, count_more, count_same, count_most}
 use Rattle.study.proofs.pieces.count_pieces.Goals as goal

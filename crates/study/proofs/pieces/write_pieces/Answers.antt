@@ -1,4 +1,4 @@
-use Rattle.std.proofs.Common.{◌≡◌, ℕ, ◌+◌, List, length, set, ap, sym, subst, ◌∙◌, arith}
+use Rattle.std.proofs.Common.{◌≡◌, ℕ, ◌+◌, List, set, ap, sym, subst, ◌∙◌, arith}
 use Rattle.study.specs.Pieces.{pieces, put_slots}
 use Rattle.study.proofs.Pieced.{Written, count_most, count_below, written_none, written_given, written_not}
 use Rattle.study.proofs.pieces.write_pieces.Goals as goal

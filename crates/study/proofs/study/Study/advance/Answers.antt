@@ -1,4 +1,3 @@
-use Rattle.std.proofs.Common.{◌≡◌}
 use Rattle.study.specs.Moments.{moment}
 use Rattle.study.proofs.Stepping.{stepped_keep, stepped_find, stepped_split}
 use Rattle.study.proofs.study.Study.advance.Goals as goal

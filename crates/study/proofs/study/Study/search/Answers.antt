@@ -1,9 +1,8 @@
-use Rattle.std.proofs.Common.{◌≡◌, ◌+◌, ◌-◌, ◌≤◌, Ok, Err, subst, sym, ◌∙◌, arith}
+use Rattle.std.proofs.Common.{sym, ◌∙◌, arith}
 use Rattle.std.proofs.lemmas.Bool.{false≢true}
 use Rattle.study.specs.Moments.{moment}
-use Rattle.study.specs.Searches.{Searches, SearchPromise}
-use Rattle.study.proofs.Lawful.{law, means, counted_running}
-use Rattle.study.proofs.Going.{going_runs, step_counts, going_begun, going_stepped, not_refused, begin_had, searches_ended, promise_ended, searches_refused, promise_refused}
+use Rattle.study.proofs.Lawful.{law, means}
+use Rattle.study.proofs.Going.{going_runs, step_counts, going_begun, going_stepped, not_refused, begin_had, searches_ended, promise_ended, promise_refused}
 use Rattle.study.proofs.study.Study.search.Goals as goal
 
 pub returns-in_err-begin-clause-law : goal.returns-in_err-begin-clause-law

@@ -1,4 +1,4 @@
-use Rattle.std.proofs.Common.{◌≡◌, ◌-◌, ◌≤◌, length}
+use Rattle.std.proofs.Common.{◌-◌, ◌≤◌, length}
 use Rattle.study.specs.declared.room.Room.{Room}
 use Rattle.study.specs.Moments.{moment, rows_of}
 use Rattle.study.specs.Begins.{HasRoom}

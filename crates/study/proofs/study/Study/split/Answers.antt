@@ -1,4 +1,4 @@
-use Rattle.std.proofs.Common.{◌≡◌, ℕ, ◌+◌, ◌-◌, List, length, ap, subst, ◌∙◌, arith}
+use Rattle.std.proofs.Common.{ℕ, ◌+◌, ◌-◌, List, length, ap, subst, ◌∙◌, arith}
 use Rattle.table.specs.Rows.{view}
 use Rattle.table.proofs.View.{few_rows}
 use Rattle.study.specs.declared.state.State.TheVariants as state

@@ -1,4 +1,4 @@
-use Rattle.std.proofs.Common.{◌≡◌, IfNone, sym, subst}
+use Rattle.std.proofs.Common.{IfNone, sym, subst}
 use Rattle.study.specs.declared.room.Room.{Room}
 use Rattle.study.specs.Slots.{HasSlots}
 use Rattle.study.proofs.study.begin.room_in.Goals as goal

@@ -1,4 +1,4 @@
-use Rattle.std.proofs.Common.{rules, ◌≡◌, ℕ, List, ap₂}
+use Rattle.std.proofs.Common.{rules, ℕ, List, ap₂}
 use Rattle.orders.specs.declared.range.Range.{Range}
 use Rattle.bounds.proofs.Padded.{padded_made}
 use Rattle.study.specs.Begins.{deadlines}
