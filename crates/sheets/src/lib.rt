@@ -1,0 +1,5 @@
+#![tactic(auto)]
+
+pub mod field;
+pub mod form;
+mod reader;
