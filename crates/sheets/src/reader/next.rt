@@ -1,8 +1,15 @@
 // What a reader hands out, part by part.
-ghost use Rattle.std.specs.Prelude.{◌≡◌, ◌+◌, ◌≤◌, [], ◌∷◌, length, MatchOption};
+ghost use Rattle.std.specs.Prelude.{◌≡◌, ◌==◌, ◌+◌, ◌≤◌, [], ◌∷◌, length, position, MatchOption};
 ghost use Rattle.sheets.specs.Readers.{parts, left};
 
 use super::{Part, Reader};
+
+// Where the first `mark` stands.
+fn first_mark(mark: u8, text: &[u8]) -> Option<usize>
+    ensures { result ≡ position (λ b. b == mark) text.now }
+{
+    text.iter().position(|b| *b == mark)
+}
 
 impl<'a> Reader<'a> {
     /// A reader at the head of the text.
@@ -25,10 +32,7 @@ impl<'a> Reader<'a> {
         ensures number { MatchOption result (self.new ≡ self.old) (λ p. (p.number ≡ self.old.number + 1) × (self.new.number ≡ self.old.number + 1)) }
     {
         let rest = self.text.get(self.at..)?;
-        let len = rest
-            .iter()
-            .position(|b| *b == self.mark)
-            .unwrap_or(rest.len());
+        let len = first_mark(self.mark, rest).unwrap_or(rest.len());
         self.at += len + 1;
         self.number += 1;
         Some(Part {
