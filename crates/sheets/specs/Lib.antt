@@ -1,3 +1,4 @@
 pub mod Fields
 pub mod Forms
 pub mod Readers
+pub mod Texts
