@@ -1,5 +1,6 @@
 -- The forms of sheet: their columns, and how many value lines they may have.
 use Rattle.std.specs.Prelude.{ℕ, List, [], ◌∷◌, codes}
+use Rattle.table.specs.declared.fault.Place.{Place}
 use Rattle.sheets.specs.declared.form.Column.{Column}
 use Rattle.sheets.specs.declared.form.Column.TheVariants.{Processors, Overhead, Test, Task, Wcet, Period, Deadline, Estimate}
 use Rattle.sheets.specs.declared.form.Kind.{Kind}
@@ -46,3 +47,7 @@ abbrev pub most_of : Form → ℕ
 most_of Board = 1
 most_of Tasks = 32
 most_of Answer = 32
+
+-- a place on a sheet of a form
+abbrev pub place : Form → ℕ → ℕ → Place
+place form line field = record { sheet = sheet_of form; line = line; field = field }

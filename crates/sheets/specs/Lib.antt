@@ -2,3 +2,4 @@ pub mod Fields
 pub mod Forms
 pub mod Readers
 pub mod Texts
+pub mod Reading

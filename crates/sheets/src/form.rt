@@ -1,6 +1,9 @@
 // The three forms of sheet: what differs among them is data.
-ghost use Rattle.std.specs.Prelude.{◌≡◌};
-ghost use Rattle.sheets.specs.Forms.{name_of, kind_of, columns_of, sheet_of, most_of};
+ghost use Rattle.std.specs.Prelude.{◌≡◌, ◌≢◌, MatchOption};
+ghost use Rattle.sheets.specs.declared.form.Column.{Column};
+ghost use Rattle.sheets.specs.Forms.{name_of, kind_of, columns_of, sheet_of, most_of, place};
+
+use table::fault::Place;
 
 /// A column of a sheet.
 #[derive(Clone, Copy, PartialEq, Eq, Debug)]
@@ -40,19 +43,20 @@ const TASKS: [Column; 4] = [
 const ANSWER: [Column; 2] = [Column::Task, Column::Estimate];
 
 impl Column {
-    /// Its name on line 1.
-    pub fn name(self) -> &'static [u8]
-        ensures { result.now ≡ name_of self }
+    /// The column of this name.
+    pub fn named(name: &[u8]) -> Option<Column>
+        ensures { MatchOption result ((c : Column) → name.now ≢ name_of c) (λ c. name.now ≡ name_of c) }
     {
-        match self {
-            Column::Processors => b"processors",
-            Column::Overhead => b"overhead",
-            Column::Test => b"test",
-            Column::Task => b"task",
-            Column::Wcet => b"wcet",
-            Column::Period => b"period",
-            Column::Deadline => b"deadline",
-            Column::Estimate => b"estimate",
+        match name {
+            b"processors" => Some(Column::Processors),
+            b"overhead" => Some(Column::Overhead),
+            b"test" => Some(Column::Test),
+            b"task" => Some(Column::Task),
+            b"wcet" => Some(Column::Wcet),
+            b"period" => Some(Column::Period),
+            b"deadline" => Some(Column::Deadline),
+            b"estimate" => Some(Column::Estimate),
+            _ => None,
         }
     }
 
@@ -97,6 +101,17 @@ impl Form {
         match self {
             Form::Board => 1,
             Form::Tasks | Form::Answer => 32,
+        }
+    }
+
+    /// A place on a sheet of the form.
+    pub(crate) fn place(self, line: u32, field: u32) -> Place
+        ensures { result ≡ place self line field }
+    {
+        Place {
+            sheet: self.sheet(),
+            line,
+            field,
         }
     }
 }

@@ -2,4 +2,6 @@
 
 pub mod field;
 pub mod form;
+mod heading;
+mod line;
 mod reader;
