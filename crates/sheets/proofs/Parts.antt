@@ -2,7 +2,7 @@
 use Rattle.std.proofs.Common.{◌≡◌, ◌==◌, ℕ, ◌+◌, ◌-◌, ◌<◌, ◌≤◌, Bool, true, false, not, cond, List, [], ◌∷◌, length, take, drop, get_or, Option, Some, None, nat_lt, nat_le, refl, sym, ap, subst, ◌∙◌, inl, inr, arith}
 use Rattle.std.proofs.lemmas.Bool.{cases_lt}
 use Rattle.std.proofs.lemmas.Bool.Decides.{nat_tests}
-use Rattle.std.proofs.lemmas.List.{drop-drop, take_all, length-drop}
+use Rattle.std.proofs.lemmas.List.{drop-drop, get_or-drop, take_all, length-drop}
 use Rattle.std.proofs.lemmas.List.Sums.{prefix_len-le-length, fails_before_first}
 use Rattle.std.proofs.lemmas.List.Splits.{slice_split_first, slice_split_none}
 use Rattle.std.specs.List.{position, position_or_len, slice_split}
@@ -50,3 +50,13 @@ next_part m a n t rest low whole first =
           ∙ ap (λ (l : List ℕ). l ∷ []) (sym (take_all n rest g))
           ∙ ap (λ b. take n rest ∷ cond b (parts m (drop (a + (n + 1)) t)) []) (sym over)
     ]
+
+-- the next of what is left of a list
+pub next_left : {X : Type 0} (xs : List X) (i : ℕ) (d x : X) (rest : List X) → drop i xs ≡ x ∷ rest → (get_or xs i d ≡ x) × (drop (i + 1) xs ≡ rest)
+next_left xs i d x rest e = (
+  ap (λ n. get_or xs n d) (omega arith) ∙ sym (get_or-drop i xs 0 d) ∙ ap (λ l. get_or l 0 d) e,
+  sym (drop-drop 1 i xs) ∙ ap (drop 1) e,
+)
+
+pub none_left : {X : Type 0} (xs : List X) (i : ℕ) → drop i xs ≡ [] → length xs ≤ i
+none_left xs i e = omega (arith, ap length e, length-drop i xs)

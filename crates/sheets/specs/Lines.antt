@@ -1,0 +1,23 @@
+-- What a value line is asked, column by column. Only contracts of private functions cite these.
+use Rattle.std.specs.Prelude.{◌≡◌, ℕ, ◌+◌, ◌<◌, ◌⊎◌, List, [], length, slice_index_or}
+use Rattle.table.specs.declared.fault.Fault.{Fault}
+use Rattle.table.specs.declared.fault.Fault.TheVariants.{BadFieldCount, BadField}
+use Rattle.sheets.specs.declared.form.Column.{Column}
+use Rattle.sheets.specs.declared.form.Column.TheVariants.{Processors}
+use Rattle.sheets.specs.declared.form.Form.{Form}
+use Rattle.sheets.specs.Forms.{kind_of, place}
+use Rattle.sheets.specs.Reading.{IsOfKind}
+
+-- the field at a place, counted from 0, has the form of its column's kind
+abbrev pub FitsAt : List Column → List (List ℕ) → ℕ → Type 0
+FitsAt columns fields j = IsOfKind (kind_of (slice_index_or columns j Processors)) (slice_index_or fields j [])
+
+-- there are as many fields as columns, and each has the form of its kind
+abbrev pub Fits : List Column → List (List ℕ) → Type 0
+Fits columns fields = (length fields ≡ length columns) × ((j : ℕ) → j < length columns → FitsAt columns fields j)
+
+-- the fault is the first of a line
+abbrev pub Misses : Form → List Column → ℕ → List (List ℕ) → Fault → Type 0
+Misses form columns line fields fault =
+    ((length fields ≡ length columns → ⊥) × (fault ≡ BadFieldCount (place form line 0)))
+    ⊎ ((length fields ≡ length columns) × (j : ℕ) × (fault ≡ BadField (place form line (j + 1))) × (j < length columns) × ((i : ℕ) → i < j → FitsAt columns fields i) × (FitsAt columns fields j → ⊥))
