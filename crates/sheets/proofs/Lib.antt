@@ -1,4 +1,5 @@
+pub mod Columns
 pub mod Cuts
+pub mod Lined
 pub mod Parts
 pub mod Values
-pub mod Columns

@@ -2,5 +2,6 @@ pub mod Fields
 pub mod Forms
 pub mod Lines
 pub mod Readers
-pub mod Texts
 pub mod Reading
+pub mod Sheets
+pub mod Texts

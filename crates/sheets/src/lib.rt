@@ -5,3 +5,4 @@ pub mod form;
 mod heading;
 mod line;
 mod reader;
+pub mod sheet;

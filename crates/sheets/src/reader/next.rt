@@ -1,5 +1,5 @@
 // What a reader hands out, part by part.
-ghost use Rattle.std.specs.Prelude.{◌≡◌, ◌==◌, ◌+◌, ◌≤◌, [], ◌∷◌, length, position, MatchOption};
+ghost use Rattle.std.specs.Prelude.{◌≡◌, ◌==◌, ◌+◌, ◌≤◌, [], ◌∷◌, length, position, IfSome, MatchOption};
 ghost use Rattle.sheets.specs.Readers.{parts, left};
 
 use super::{Part, Reader};
@@ -29,6 +29,7 @@ impl<'a> Reader<'a> {
     /// The next part.
     pub fn next(&mut self) -> Option<Part<'a>>
         ensures left { MatchOption result (left self.old ≡ []) (λ p. left self.old ≡ p.bytes.now ∷ left self.new) }
+        ensures short { IfSome result (λ p. length p.bytes.now ≤ 4096) }
         ensures number { MatchOption result (self.new ≡ self.old) (λ p. (p.number ≡ self.old.number + 1) × (self.new.number ≡ self.old.number + 1)) }
     {
         let rest = self.text.get(self.at..)?;
