@@ -1,5 +1,5 @@
 -- Columns, and the lists of them that line 1 names.
-use Rattle.std.proofs.Common.{◌≡◌, ◌≢◌, ◌==◌, ℕ, ◌+◌, ◌<◌, ◌≤◌, Bool, true, false, cond, Option, List, [], ◌∷◌, ◌++◌, map, length, take, set, get_or, refl, sym, ap, subst, ◌∙◌, arith}
+use Rattle.std.proofs.Common.{◌≡◌, ◌≢◌, ◌==◌, ℕ, ◌+◌, ◌<◌, ◌≤◌, Bool, true, false, cond, Option, Some, None, List, [], ◌∷◌, ◌++◌, map, length, take, set, get_or, refl, sym, ap, subst, ◌∙◌, arith}
 use Rattle.std.specs.Prelude.{Decides}
 use Rattle.std.specs.Bool.{MatchBool, then_some}
 use Rattle.std.specs.Option.{MatchOption}
@@ -14,6 +14,7 @@ use Rattle.sheets.specs.declared.form.Column.TheVariants.{Processors, Overhead, 
 use Rattle.sheets.specs.declared.form.Form.{Form}
 use Rattle.sheets.specs.declared.form.Form.TheVariants.{Board, Tasks, Answer}
 use Rattle.sheets.specs.Forms.{name_of, columns_of}
+use Rattle.sheets.specs.Readers.{parts}
 use Rattle.sheets.specs.Reading.{Heads, HasNames}
 
 -- the derived `==` says whether two columns are one
@@ -94,3 +95,8 @@ module _ (form : Form) (names : List (List ℕ)) where
     go false e = λ given.
         let same : given.0 ≡ take count order = one_order given.0 (take count order) (sym given.1.named ∙ whole) in
         false≢true (sym e ∙ test.1 (ap length (sym same) ∙ given.1.size, subst (λ xs. All (Contains xs) (columns_of form)) same given.1.each))
+
+-- the same of the line that is left first
+pub named_next : (form : Form) (first : List ℕ) (rest before : List (List ℕ)) → before ≡ first ∷ rest → (r : Option (List Column)) → MatchOption r (HasNames form (parts 32 first) → ⊥) (λ o. Heads form (parts 32 first) (take (length (columns_of form)) o)) → MatchOption r ((names : List ℕ) (lines : List (List ℕ)) → before ≡ names ∷ lines → HasNames form (parts 32 names) → ⊥) (λ o. (x : List ℕ) × (before ≡ x ∷ rest) × Heads form (parts 32 x) (take (length (columns_of form)) o))
+named_next form first rest before e None h = λ names lines f given. let same : names ≡ first = cc in h (subst (λ n. HasNames form (parts 32 n)) same given)
+named_next form first rest before e (Some o) h = (first, e, h)

@@ -1,10 +1,12 @@
 -- A text is of just the lines and fields that its line feeds and spaces cut.
-use Rattle.std.proofs.Common.{◌≡◌, ◌≢◌, ◌==◌, ℕ, ◌+◌, ◌<◌, ◌≤◌, Bool, true, false, cond, List, [], ◌∷◌, ◌++◌, map, length, refl, sym, ap, subst, ◌∙◌, arith}
+use Rattle.std.proofs.Common.{◌≡◌, ◌≢◌, ◌==◌, ℕ, ◌+◌, ◌<◌, ◌≤◌, Bool, true, false, cond, List, [], ◌∷◌, ◌++◌, map, length, get_or, refl, sym, ap, subst, ◌∙◌, arith}
 use Rattle.std.proofs.lemmas.Bool.Decides.{nat_tests}
-use Rattle.std.proofs.lemmas.List.{append-nil, append_assoc, append_cancel_right, length-append}
+use Rattle.std.proofs.lemmas.List.{append-nil, get_or_at, append_assoc, append_cancel_right, length-append}
 use Rattle.std.proofs.lemmas.List.Elements.{All-nil, All-cons, All-head, All-tail, All-append, All-weaker, All-map}
 use Rattle.std.proofs.lemmas.List.Splits.{slice_split_at, slice_split_none, length-slice_split, join_with_byte-slice_split}
 use Rattle.std.specs.List.{All, flat_map, join_with_byte, slice_split, onto_first}
+use Rattle.table.specs.Places.{nth}
+use Rattle.table.proofs.Placed.{nth_next}
 use Rattle.sheets.specs.Readers.{parts}
 use Rattle.sheets.specs.Texts.{IsField, line_of, text_of, IsText}
 
@@ -99,3 +101,20 @@ only_cut body (l ∷ ls) t =
     sym (ap cut same
     ∙ ap (map (parts 32)) (parts-join 10 (map line_of lines) (omega arith) (All-map (All (λ b. b ≢ 10)) line_of lines (All-weaker Line (λ fields. All (λ b. b ≢ 10) (line_of fields)) (λ fields h. line_lacks fields h.1) lines t.each)))
     ∙ parted lines t.each)
+
+-- the last byte of a text
+pub last_byte : (text body : List ℕ) (last : ℕ) → text ≡ body ++ last ∷ [] → nth text (length text) 0 ≡ last
+last_byte text body last e =
+    let long : length text ≡ length body + 1 = ap length e ∙ length-append body (last ∷ []) in
+    ap (λ k. nth text k 0) long ∙ nth_next text (length body) 0 ∙ ap (λ l. get_or l (length body) 0) e ∙ get_or_at body last [] 0 (length body) refl
+
+-- two ways of seeing a text as lines are one
+pub one_text : (text : List ℕ) (lines others : List (List (List ℕ))) → IsText text lines → IsText text others → lines ≡ others
+one_text text [] [] s t = refl
+one_text text [] (m ∷ ms) s t = absurd (omega (arith, ap length (sym s.whole ∙ t.whole), length-append (ended (line_of m)) (text_of ms), length-append (line_of m) (10 ∷ [])))
+one_text text (l ∷ ls) others s t =
+    let body = join_with_byte 10 (map line_of (l ∷ ls)) in
+    let whole : text ≡ ended body = s.whole ∙ text_lines (l ∷ ls) ∙ ended_lines (map line_of (l ∷ ls)) (omega arith) in
+    only_cut body (l ∷ ls) (at whole s) ∙ sym (only_cut body others (at whole t)) where
+  at : {ds bs : List ℕ} {ks : List (List (List ℕ))} → ds ≡ bs → IsText ds ks → IsText bs ks
+  at {ds} {bs} {ks} e k = subst (λ b. IsText b ks) e k

@@ -1,5 +1,6 @@
 pub mod Columns
 pub mod Cuts
+pub mod Firsts
 pub mod Lined
 pub mod Parts
 pub mod Values

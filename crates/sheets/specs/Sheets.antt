@@ -1,14 +1,31 @@
--- What a sheet that was read has.
-use Rattle.std.specs.Prelude.{ℕ, List, map, length, take}
+-- What a sheet that was read has, and reading.
+use Rattle.std.specs.Prelude.{◌≡◌, ℕ, List, map, length, take, drop, Result, MatchResult}
+use Rattle.table.specs.declared.fault.Fault.{Fault}
 use Rattle.sheets.specs.declared.form.Column.{Column}
+use Rattle.sheets.specs.declared.form.Form.{Form}
 use Rattle.sheets.specs.declared.sheet.Sheet.{Sheet}
 use Rattle.sheets.specs.Forms.{columns_of}
 use Rattle.sheets.specs.Readers.{parts}
+use Rattle.sheets.specs.Reading.{IsSheet, IsFirst}
 
 -- the columns of a sheet, from left to right
 abbrev pub order_of : Sheet → List Column
 order_of s = take (length (columns_of s.form)) s.order
 
--- its value lines
+-- its value lines, as parts of the text
 abbrev pub lines_of : Sheet → List (List ℕ)
 lines_of s = map (λ line. line.now) (take s.len s.lines)
+
+-- its value lines, as what stands between their spaces
+abbrev pub values_of : Sheet → List (List (List ℕ))
+values_of s = map (parts 32) (lines_of s)
+
+-- the sheet is of this form, with the columns in this order, and its value lines are those of these lines
+abbrev pub Shows : Form → List (List (List ℕ)) → List Column → Sheet → Type 0
+Shows form lines order s = (s.form ≡ form) × (order_of s ≡ order) × (values_of s ≡ drop 1 lines)
+
+-- reading a text: the sheet that it is, or the first fault
+abbrev pub Reads : Form → List ℕ → Result Sheet Fault → Type 0
+Reads form text r =
+    MatchResult r (λ s. (lines : List (List (List ℕ))) × (order : List Column) × IsSheet form text lines order × Shows form lines order s)
+    (λ fault. IsFirst form text fault)

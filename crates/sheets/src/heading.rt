@@ -1,7 +1,7 @@
 // The columns that line 1 names.
-ghost use Rattle.std.specs.Prelude.{◌≡◌, ◌≤◌, ◌↔◌, length, take, All, Contains, IsTrue, MatchOption};
+ghost use Rattle.std.specs.Prelude.{◌≡◌, ◌+◌, ◌≤◌, ◌↔◌, ◌∷◌, length, take, All, Contains, IsTrue, IfSome, MatchOption};
 ghost use Rattle.sheets.specs.Forms.{columns_of};
-ghost use Rattle.sheets.specs.Readers.{parts};
+ghost use Rattle.sheets.specs.Readers.{parts, left};
 ghost use Rattle.sheets.specs.Reading.{Heads, HasNames};
 
 use crate::form::{Column, Form};
@@ -40,4 +40,13 @@ pub(crate) fn order_of(form: Form, names: &[u8]) -> Option<[Column; 4]>
         count += 1;
     }
     is_order(form, &order[..count]).then_some(order)
+}
+
+/// The columns that the next line names, if they are the form's, each once.
+pub(crate) fn next_order(form: Form, lines: &mut Reader<'_>) -> Option<[Column; 4]>
+    ensures order { MatchOption result ((names : _) (rest : _) → left lines.old ≡ names ∷ rest → HasNames form (parts 32 names) → ⊥) (λ order. (names : _) × (left lines.old ≡ names ∷ left lines.new) × Heads form (parts 32 names) (take (length (columns_of form)) order)) }
+    ensures number { IfSome result (λ _. lines.new.number ≡ lines.old.number + 1) }
+{
+    let names = lines.next()?;
+    order_of(form, names.bytes)
 }

@@ -1,13 +1,15 @@
 // Reading a text.
-ghost use Rattle.std.specs.Prelude.{◌≡◌, ◌≤◌, ◌<◌, length, take, MatchResult};
+ghost use Rattle.std.specs.Prelude.{◌≡◌, ◌≤◌, ◌<◌, [], ◌∷◌, ◌++◌, length, take, List, ℕ, IsOk, MatchOption, MatchResult};
 ghost use Rattle.sheets.specs.Forms.{columns_of};
 ghost use Rattle.sheets.specs.Readers.{left};
-ghost use Rattle.sheets.specs.Reading.{Allowed};
+ghost use Rattle.sheets.specs.Reading.{Allowed, IsSized, IsSheet};
 ghost use Rattle.sheets.specs.Lines.{FirstFit, LinesMiss};
-ghost use Rattle.sheets.specs.Sheets.{lines_of};
+ghost use Rattle.sheets.specs.Texts.{IsText};
+ghost use Rattle.sheets.specs.Sheets.{lines_of, Reads};
 
 use super::Sheet;
 use crate::form::{Column, Form};
+use crate::heading::next_order;
 use crate::line::ask_line;
 use crate::reader::Reader;
 use table::fault::Fault;
@@ -40,4 +42,41 @@ fn read_values<'a>(form: Form, order: [Column; 4], mut lines: Reader<'a>, filler
         lines: kept,
         len,
     })
+}
+
+// The text without its last line feed, if it has one and the text is not too long.
+fn body_of(text: &[u8]) -> Option<&[u8]>
+    ensures { MatchOption result (IsSized text.now → ⊥) (λ body. IsSized text.now × (text.now ≡ body.now ++ 10 ∷ [])) }
+{
+    let (last, body) = text.split_last()?;
+    if *last == b'\n' && text.len() <= 4096 {
+        Some(body)
+    } else {
+        None
+    }
+}
+
+// Asks the questions of a text, the first one first.
+fn read_text<'a>(form: Form, text: &'a [u8]) -> Result<Sheet<'a>, Fault>
+    ensures { Reads form text.now result }
+{
+    let Some(body) = body_of(text) else {
+        return Err(Fault::BadText(form.place(0, 0)));
+    };
+    let mut lines = Reader::new(body, b'\n');
+    match next_order(form, &mut lines) {
+        Some(order) => read_values(form, order, lines, body),
+        None => Err(Fault::BadNames(form.place(1, 0))),
+    }
+}
+
+/// Reads a text as a sheet of the form.
+pub fn read<'a>(form: Form, text: &'a [u8]) -> Result<Sheet<'a>, Fault>
+    ensures read { Reads form text.now result }
+    // What is a sheet is read.
+    ensures whole { (lines : List (List (List ℕ))) (order : _) → IsSheet form text.now lines order → IsOk result }
+    // A text is of no other lines.
+    ensures one { (lines others : List (List (List ℕ))) → IsText text.now lines → IsText text.now others → lines ≡ others }
+{
+    read_text(form, text)
 }
