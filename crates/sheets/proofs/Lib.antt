@@ -3,4 +3,5 @@ pub mod Cuts
 pub mod Firsts
 pub mod Lined
 pub mod Parts
+pub mod Readings
 pub mod Values

@@ -1,0 +1,9 @@
+use Rattle.sheets.proofs.Cuts.{one_text}
+use Rattle.sheets.proofs.Readings.{sheet_is_read}
+use Rattle.sheets.proofs.sheet.read.read.Goals as goal
+
+pub returns-clause-whole : goal.returns-clause-whole
+returns-clause-whole c = sheet_is_read c.args.form c.args.text.now c.read_text.result c.read_text.ensures
+
+pub returns-clause-one : goal.returns-clause-one
+returns-clause-one c = one_text c.args.text.now
