@@ -17,13 +17,9 @@ use Rattle.sheets.specs.Texts.{IsText}
 use Rattle.sheets.specs.Readers.{parts}
 use Rattle.sheets.specs.Reading.{IsSized, Heads, HasNames, IsOfKind, Allowed, IsValueLine, field, SameCount, Conforms, line_at_fault, MissedIn, Missed, is_late, Before, IsFirst, IsSheet}
 use Rattle.sheets.specs.Lines.{FitsAt, Fits, Misses, FirstFit, LinesMiss}
+use Rattle.sheets.proofs.Parts.{get_or-map}
 use Rattle.sheets.proofs.Columns.{one_column}
 use Rattle.sheets.proofs.Cuts.{ended, cut, cut_is_text, only_cut, one_text}
-
-get_or-map : {A B : Type 0} (f : A → B) (xs : List A) (i : ℕ) (d : A) → get_or (map f xs) i (f d) ≡ f (get_or xs i d)
-get_or-map f [] i d = refl
-get_or-map f (x ∷ xs) zero d = refl
-get_or-map f (x ∷ xs) (suc i) d = get_or-map f xs i d
 
 -- no column has the empty name
 named : (c : Column) → [] ≢ name_of c

@@ -1,5 +1,5 @@
 -- The parts of a text, one after another.
-use Rattle.std.proofs.Common.{◌≡◌, ◌==◌, ℕ, ◌+◌, ◌-◌, ◌<◌, ◌≤◌, Bool, true, false, not, cond, List, [], ◌∷◌, length, take, drop, get_or, Option, Some, None, nat_lt, nat_le, refl, sym, ap, subst, ◌∙◌, inl, inr, arith}
+use Rattle.std.proofs.Common.{◌≡◌, ◌==◌, ℕ, zero, suc, ◌+◌, ◌-◌, ◌<◌, ◌≤◌, Bool, true, false, not, cond, List, [], ◌∷◌, map, length, take, drop, get_or, Option, Some, None, nat_lt, nat_le, refl, sym, ap, subst, ◌∙◌, inl, inr, arith}
 use Rattle.std.proofs.lemmas.Bool.{cases_lt}
 use Rattle.std.proofs.lemmas.Bool.Decides.{nat_tests}
 use Rattle.std.proofs.lemmas.List.{drop-drop, get_or-drop, take_all, length-drop}
@@ -7,9 +7,11 @@ use Rattle.std.proofs.lemmas.List.Sums.{prefix_len-le-length, fails_before_first
 use Rattle.std.proofs.lemmas.List.Splits.{slice_split_first, slice_split_none}
 use Rattle.std.specs.List.{position, position_or_len, slice_split}
 use Rattle.std.specs.Option.{unwrap_or}
+use Rattle.std.specs.Option.{MatchOption}
+use Rattle.sheets.specs.declared.reader.Part.{Part}
 use Rattle.sheets.specs.Readers.{parts}
 
-module _ (p : ℕ → Bool) (xs : List ℕ) where
+module _ {X : Type 0} (p : X → Bool) (xs : List X) where
   -- the first place that passes, or the length
   pub unwrap_or-position : unwrap_or (position p xs) (length xs) ≡ position_or_len p xs
   unwrap_or-position = elim (cases_lt (position_or_len p xs) (length xs)) [
@@ -60,3 +62,16 @@ next_left xs i d x rest e = (
 
 pub none_left : {X : Type 0} (xs : List X) (i : ℕ) → drop i xs ≡ [] → length xs ≤ i
 none_left xs i e = omega (arith, ap length e, length-drop i xs)
+
+-- an element of a mapped list
+pub get_or-map : {A B : Type 0} (f : A → B) (xs : List A) (i : ℕ) (d : A) → get_or (map f xs) i (f d) ≡ f (get_or xs i d)
+get_or-map f [] i d = refl
+get_or-map f (x ∷ xs) zero d = refl
+get_or-map f (x ∷ xs) (suc i) d = get_or-map f xs i d
+
+-- the part that is handed out after so many
+pub part_at : (ps before after : List (List ℕ)) (at n m : ℕ) → drop at ps ≡ before → n ≡ at → (r : Option Part) → MatchOption r (before ≡ []) (λ p. before ≡ p.bytes.now ∷ after) → (Q : Type 0) → MatchOption r Q (λ p. (p.number ≡ n + 1) × (m ≡ n + 1)) → MatchOption r (length ps ≤ at) (λ p. (at < length ps) × (p.bytes.now ≡ get_or ps at []) × (p.number ≡ at + 1))
+part_at ps before after at n m e is None here Q count = none_left ps at (e ∙ here)
+part_at ps before after at n m e is (Some p) here Q count =
+    let next = next_left ps at [] p.bytes.now after (e ∙ here) in
+    (omega (arith, ap length (e ∙ here), length-drop at ps), sym next.0, omega (arith, count.0))

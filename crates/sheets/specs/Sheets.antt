@@ -1,10 +1,13 @@
 -- What a sheet that was read has, and reading.
-use Rattle.std.specs.Prelude.{◌≡◌, ℕ, List, map, length, take, drop, Result, MatchResult}
+use Rattle.std.specs.Prelude.{◌≡◌, ℕ, ◌+◌, ◌<◌, ◌≤◌, List, [], map, length, take, drop, Result, MatchResult}
 use Rattle.table.specs.declared.fault.Fault.{Fault}
 use Rattle.sheets.specs.declared.form.Column.{Column}
 use Rattle.sheets.specs.declared.form.Form.{Form}
 use Rattle.sheets.specs.declared.sheet.Sheet.{Sheet}
-use Rattle.sheets.specs.Forms.{columns_of}
+use Rattle.std.specs.List.{position_or_len}
+use Rattle.std.specs.Str.{bytes_eq}
+use Rattle.table.specs.Places.{nth}
+use Rattle.sheets.specs.Forms.{name_of, columns_of}
 use Rattle.sheets.specs.Readers.{parts}
 use Rattle.sheets.specs.Reading.{IsSheet, IsFirst}
 
@@ -19,6 +22,18 @@ lines_of s = map (λ line. line.now) (take s.len s.lines)
 -- its value lines, as what stands between their spaces
 abbrev pub values_of : Sheet → List (List (List ℕ))
 values_of s = map (parts 32) (lines_of s)
+
+-- how many columns stand left of one; all where it is none of the sheet's
+abbrev pub left_of : Sheet → Column → ℕ
+left_of s c = position_or_len (λ d. bytes_eq (name_of d) (name_of c)) (order_of s)
+
+-- the k-th value line has a field under a column
+abbrev pub HasField : Sheet → ℕ → Column → Type 0
+HasField s k c = (1 ≤ k) × (k ≤ length (values_of s)) × (left_of s c < length (order_of s)) × (left_of s c < length (nth (values_of s) k []))
+
+-- that field; no byte where there is none
+abbrev pub field_of : Sheet → ℕ → Column → List ℕ
+field_of s k c = nth (nth (values_of s) k []) (left_of s c + 1) []
 
 -- the sheet is of this form, with the columns in this order, and its value lines are those of these lines
 abbrev pub Shows : Form → List (List (List ℕ)) → List Column → Sheet → Type 0

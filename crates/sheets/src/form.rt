@@ -1,5 +1,6 @@
 // The three forms of sheet: what differs among them is data.
 ghost use Rattle.std.specs.Prelude.{◌≡◌, ◌≢◌, MatchOption};
+ghost use Rattle.std.specs.Str.{bytes_eq};
 ghost use Rattle.sheets.specs.declared.form.Column.{Column};
 ghost use Rattle.sheets.specs.Forms.{name_of, kind_of, columns_of, sheet_of, most_of, place};
 
@@ -58,6 +59,13 @@ impl Column {
             b"estimate" => Some(Column::Estimate),
             _ => None,
         }
+    }
+
+    /// Whether it is the other column: then it has its name.
+    pub(crate) fn is(self, other: Column) -> bool
+        ensures { result ≡ bytes_eq (name_of self) (name_of other) }
+    {
+        self == other
     }
 
     /// The kind of the fields under it.

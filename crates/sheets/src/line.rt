@@ -1,5 +1,5 @@
 // What a value line is asked.
-ghost use Rattle.std.specs.Prelude.{◌≡◌, ◌+◌, ◌<◌, ◌≤◌, ◌↔◌, length, IsTrue, MatchOption, MatchResult};
+ghost use Rattle.std.specs.Prelude.{◌≡◌, ◌+◌, ◌<◌, ◌≤◌, ◌↔◌, [], length, slice_index_or, IsTrue, MatchOption, MatchResult};
 ghost use Rattle.sheets.specs.Readers.{parts};
 ghost use Rattle.sheets.specs.Reading.{IsOfKind};
 ghost use Rattle.sheets.specs.Lines.{FitsAt, Fits, Misses};
@@ -55,4 +55,16 @@ pub(crate) fn ask_line(form: Form, columns: &[Column], line: Part<'_>) -> Result
         None => Ok(()),
         Some(field) => Err(Fault::BadField(form.place(line.number, field))),
     }
+}
+
+/// The field with so many fields on its left.
+pub(crate) fn field_at(line: &[u8], at: usize) -> Option<Part<'_>>
+    requires { length line.now ≤ 4096 }
+    ensures { MatchOption result (length (parts 32 line.now) ≤ at) (λ p. (at < length (parts 32 line.now)) × (p.bytes.now ≡ slice_index_or (parts 32 line.now) at []) × (p.number ≡ at + 1)) }
+{
+    let mut fields = Reader::new(line, b' ');
+    for _ in 0..at {
+        fields.next()?;
+    }
+    fields.next()
 }

@@ -1,6 +1,7 @@
 // A sheet that was read: it holds its lines, as parts of the text, and the columns that line 1 names.
 ghost use Rattle.std.specs.Prelude.{◌≤◌, length, All};
 
+pub mod fields;
 pub mod read;
 
 use crate::form::{Column, Form};

@@ -1,0 +1,88 @@
+// The fields of a sheet.
+ghost use Rattle.std.specs.Prelude.{◌≡◌, ◌+◌, ◌<◌, ◌≤◌, [], length, position, bytes_eq, IfSome, MatchOption};
+ghost use Rattle.table.specs.Places.{nth};
+ghost use Rattle.sheets.specs.Forms.{name_of, place};
+ghost use Rattle.sheets.specs.Fields.{Writes};
+ghost use Rattle.sheets.specs.Sheets.{order_of, lines_of, values_of, left_of, HasField, field_of};
+
+use super::Sheet;
+use crate::field::number;
+use crate::form::Column;
+use crate::line::field_at;
+use table::fault::Place;
+
+/// A field: a part of the text, and where it stands on the sheet.
+#[derive(Clone, Copy)]
+pub struct Field<'a> {
+    pub bytes: &'a [u8],
+    pub place: Place,
+}
+
+impl Field<'_> {
+    /// The number that the field writes.
+    pub fn number(&self) -> Option<u32>
+        ensures { MatchOption result ((n : _) → Writes self.now.bytes.now n → ⊥) (λ n. Writes self.now.bytes.now n) }
+    {
+        number(self.bytes)
+    }
+}
+
+// Where the column stands.
+fn place_of(columns: &[Column], column: Column) -> Option<usize>
+    ensures { result ≡ position (λ c. bytes_eq (name_of c) (name_of column)) columns.now }
+{
+    columns.iter().position(|c| c.is(column))
+}
+
+impl<'a> Sheet<'a> {
+    /// How many value lines there are.
+    pub fn len(&self) -> usize
+        ensures { result ≡ length (values_of self.now) }
+    {
+        self.len
+    }
+
+    // The columns, from left to right.
+    fn columns(&self) -> &[Column]
+        ensures { result.now ≡ order_of self.now }
+    {
+        &self.order[..self.form.columns().len()]
+    }
+
+    // How many columns stand left of one.
+    fn left_of(&self, column: Column) -> usize
+        ensures { result ≡ left_of self.now column }
+    {
+        let columns = self.columns();
+        place_of(columns, column).unwrap_or(columns.len())
+    }
+
+    // The k-th value line.
+    fn line(&self, k: usize) -> Option<&'a [u8]>
+        ensures line { MatchOption result ((1 ≤ k) × (k ≤ length (lines_of self.now)) → ⊥) (λ line. (1 ≤ k) × (k ≤ length (lines_of self.now)) × (line.now ≡ nth (lines_of self.now) k [])) }
+        ensures small { IfSome result (λ line. (k ≤ 32) × (length line.now ≤ 4096)) }
+    {
+        let place = k.checked_sub(1)?;
+        if place < self.len {
+            Some(self.lines[place])
+        } else {
+            None
+        }
+    }
+
+    /// The field under a column in the k-th value line.
+    pub fn field(&self, k: usize, column: Column) -> Option<Field<'a>>
+        ensures { MatchOption result (HasField self.now k column → ⊥) (λ f. HasField self.now k column × (f.bytes.now ≡ field_of self.now k column) × (f.place ≡ place self.now.form (k + 1) (left_of self.now column + 1))) }
+    {
+        let line = self.line(k)?;
+        let at = self.left_of(column);
+        if at >= self.columns().len() {
+            return None;
+        }
+        let part = field_at(line, at)?;
+        Some(Field {
+            bytes: part.bytes,
+            place: self.form.place(k as u32 + 1, part.number),
+        })
+    }
+}
