@@ -29,7 +29,7 @@ left_of s c = position_or_len (λ d. bytes_eq (name_of d) (name_of c)) (order_of
 
 -- the k-th value line has a field under a column
 abbrev pub HasField : Sheet → ℕ → Column → Type 0
-HasField s k c = (1 ≤ k) × (k ≤ length (values_of s)) × (left_of s c < length (order_of s)) × (left_of s c < length (nth (values_of s) k []))
+HasField s k c = (1 ≤ k) × (k ≤ length (values_of s)) × (left_of s c < length (nth (values_of s) k []))
 
 -- that field; no byte where there is none
 abbrev pub field_of : Sheet → ℕ → Column → List ℕ

@@ -4,6 +4,7 @@ ghost use Rattle.table.specs.Places.{nth};
 ghost use Rattle.sheets.specs.Forms.{name_of, place};
 ghost use Rattle.sheets.specs.Fields.{Writes};
 ghost use Rattle.sheets.specs.Sheets.{order_of, lines_of, values_of, left_of, HasField, field_of};
+ghost use Rattle.sheets.specs.Pairs.{task_of};
 
 use super::Sheet;
 use crate::field::number;
@@ -37,7 +38,8 @@ fn place_of(columns: &[Column], column: Column) -> Option<usize>
 impl<'a> Sheet<'a> {
     /// How many value lines there are.
     pub fn len(&self) -> usize
-        ensures { result ≡ length (values_of self.now) }
+        ensures count { result ≡ length (values_of self.now) }
+        ensures few { result ≤ 32 }
     {
         self.len
     }
@@ -51,7 +53,8 @@ impl<'a> Sheet<'a> {
 
     // How many columns stand left of one.
     fn left_of(&self, column: Column) -> usize
-        ensures { result ≡ left_of self.now column }
+        ensures value { result ≡ left_of self.now column }
+        ensures few { result ≤ 4 }
     {
         let columns = self.columns();
         place_of(columns, column).unwrap_or(columns.len())
@@ -75,14 +78,46 @@ impl<'a> Sheet<'a> {
         ensures { MatchOption result (HasField self.now k column → ⊥) (λ f. HasField self.now k column × (f.bytes.now ≡ field_of self.now k column) × (f.place ≡ place self.now.form (k + 1) (left_of self.now column + 1))) }
     {
         let line = self.line(k)?;
-        let at = self.left_of(column);
-        if at >= self.columns().len() {
-            return None;
-        }
-        let part = field_at(line, at)?;
+        let part = field_at(line, self.left_of(column))?;
         Some(Field {
             bytes: part.bytes,
             place: self.form.place(k as u32 + 1, part.number),
         })
+    }
+
+    // The name in the k-th value line, or no byte where there is none.
+    pub(crate) fn name(&self, k: usize) -> Field<'a>
+        requires { k ≤ 32 }
+        ensures name { result.bytes.now ≡ task_of self.now k }
+        ensures place { result.place ≡ place self.now.form (k + 1) (left_of self.now Column.Task + 1) }
+    {
+        let place = self
+            .form
+            .place(k as u32 + 1, self.left_of(Column::Task) as u32 + 1);
+        match self.field(k, Column::Task) {
+            Some(field) => field,
+            None => Field { bytes: &[], place },
+        }
+    }
+
+    // The first of the first `count` value lines with this name.
+    pub(crate) fn line_of(&self, name: &[u8], count: usize) -> Option<usize>
+        requires { count ≤ 32 }
+        ensures { MatchOption result ((k : _) → 1 ≤ k → k ≤ count → task_of self.now k ≡ name.now → ⊥) (λ k. (1 ≤ k) × (k ≤ count) × (task_of self.now k ≡ name.now)) }
+    {
+        for i in 0..count {
+            if self.name(i + 1).bytes == name {
+                return Some(i + 1);
+            }
+        }
+        None
+    }
+
+    // The place of the k-th value line.
+    pub(crate) fn line_place(&self, k: usize) -> Place
+        requires { k ≤ 32 }
+        ensures { result ≡ place self.now.form (k + 1) 0 }
+    {
+        self.form.place(k as u32 + 1, 0)
     }
 }
