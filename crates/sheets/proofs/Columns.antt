@@ -14,7 +14,7 @@ use Rattle.sheets.specs.declared.form.Column.TheVariants.{Processors, Overhead, 
 use Rattle.sheets.specs.declared.form.Form.{Form}
 use Rattle.sheets.specs.declared.form.Form.TheVariants.{Board, Tasks, Answer}
 use Rattle.sheets.specs.Forms.{name_of, columns_of}
-use Rattle.sheets.specs.Readers.{parts}
+use Rattle.sheets.specs.Texts.{parts}
 use Rattle.sheets.specs.Reading.{Heads, HasNames}
 
 -- the derived `==` says whether two columns are one
@@ -26,7 +26,7 @@ pub each_decides : (given columns : List Column) (r : Bool) → MatchBool r (All
 each_decides given columns true h = (λ e. All-from_all_within (Contains given) columns h, λ all. refl)
 each_decides given columns false h = (λ e. absurd (false≢true e), λ all. absurd (h.2 Task (all h.0 Task h.1)))
 
-pub few_columns : (form : Form) → length (columns_of form) ≤ 4
+pub few_columns : (form : Form) → length (columns_of form) ≤ 8
 few_columns Board = omega arith
 few_columns Tasks = omega arith
 few_columns Answer = omega arith

@@ -1,14 +1,13 @@
 -- A text is of just the lines and fields that its line feeds and spaces cut.
-use Rattle.std.proofs.Common.{◌≡◌, ◌≢◌, ◌==◌, ℕ, ◌+◌, ◌<◌, ◌≤◌, Bool, true, false, cond, List, [], ◌∷◌, ◌++◌, map, length, get_or, refl, sym, ap, subst, ◌∙◌, arith}
+use Rattle.std.proofs.Common.{◌≡◌, ◌≢◌, ◌==◌, ℕ, ◌+◌, ◌≤◌, Bool, true, false, cond, List, [], ◌∷◌, ◌++◌, map, length, get_or, refl, sym, ap, subst, ◌∙◌, arith}
 use Rattle.std.proofs.lemmas.Bool.Decides.{nat_tests}
 use Rattle.std.proofs.lemmas.List.{append-nil, get_or_at, append_assoc, append_cancel_right, length-append}
 use Rattle.std.proofs.lemmas.List.Elements.{All-nil, All-cons, All-head, All-tail, All-append, All-weaker, All-map}
 use Rattle.std.proofs.lemmas.List.Splits.{slice_split_at, slice_split_none, length-slice_split, join_with_byte-slice_split}
-use Rattle.std.specs.List.{All, flat_map, join_with_byte, slice_split, onto_first}
+use Rattle.std.specs.List.{All, flat_map, join_with_byte, onto_first}
 use Rattle.table.specs.Places.{nth}
 use Rattle.table.proofs.Placed.{nth_next}
-use Rattle.sheets.specs.Readers.{parts}
-use Rattle.sheets.specs.Texts.{IsField, line_of, text_of, IsText}
+use Rattle.sheets.specs.Texts.{parts, IsField, line_of, text_of, IsText}
 
 abbrev pub ended : List ℕ → List ℕ
 ended line = line ++ 10 ∷ []
@@ -32,9 +31,9 @@ module _ (P : ℕ → Type 0) (m : ℕ) where
   parts_hold (x ∷ xs) h =
       let rest = parts_hold xs (All-tail (λ b. b ≢ m → P b) x xs h) in
       go (x == m) refl rest where
-      go : (b : Bool) → (x == m) ≡ b → All (All P) (parts m xs) → All (All P) (cond b ([] ∷ parts m xs) (onto_first x (parts m xs)))
-      go true e rest = All-cons (All P) [] (parts m xs) (All-nil P) rest
-      go false e rest = onto x (parts m xs) (All-head (λ b. b ≢ m → P b) x xs h (grind (arith, nat_tests))) rest
+        go : (b : Bool) → (x == m) ≡ b → All (All P) (parts m xs) → All (All P) (cond b ([] ∷ parts m xs) (onto_first x (parts m xs)))
+        go true e rest = All-cons (All P) [] (parts m xs) (All-nil P) rest
+        go false e rest = onto x (parts m xs) (All-head (λ b. b ≢ m → P b) x xs h (grind (arith, nat_tests))) rest
 
 -- lines that are joined by line feeds, with one more behind
 ended_lines : (ls : List (List ℕ)) → 1 ≤ length ls → flat_map ended ls ≡ ended (join_with_byte 10 ls)
@@ -73,8 +72,8 @@ pub cut_is_text : (body : List ℕ) → IsText (ended body) (cut body)
 cut_is_text body = record {
   whole = sym (text_lines (cut body) ∙ ap (flat_map ended) (joined (parts 10 body)) ∙ ended_lines (parts 10 body) (some_part 10 body) ∙ ap ended (join_with_byte-slice_split 10 body));
   each = All-map Line (parts 32) (parts 10 body)
-  (All-weaker (All (λ b. b ≢ 10)) (λ l. Line (parts 32 l)) (λ l h. (some_part 32 l, parts_hold (λ b. (b ≢ 10) × (b ≢ 32)) 32 l (All-weaker (λ b. b ≢ 10) (λ b. b ≢ 32 → (b ≢ 10) × (b ≢ 32)) (λ b x y. (x, y)) l h))) (parts 10 body)
-  (parts_hold (λ b. b ≢ 10) 10 body (λ k d l e. e)));
+      (All-weaker (All (λ b. b ≢ 10)) (λ l. Line (parts 32 l)) (λ l h. (some_part 32 l, parts_hold (λ b. (b ≢ 10) × (b ≢ 32)) 32 l (All-weaker (λ b. b ≢ 10) (λ b. b ≢ 32 → (b ≢ 10) × (b ≢ 32)) (λ b x y. (x, y)) l h))) (parts 10 body)
+      (parts_hold (λ b. b ≢ 10) 10 body (λ k d l e. e)));
 }
 
 line_lacks : (fields : List (List ℕ)) → All IsField fields → All (λ b. b ≢ 10) (line_of fields)
@@ -116,5 +115,5 @@ one_text text (l ∷ ls) others s t =
     let body = join_with_byte 10 (map line_of (l ∷ ls)) in
     let whole : text ≡ ended body = s.whole ∙ text_lines (l ∷ ls) ∙ ended_lines (map line_of (l ∷ ls)) (omega arith) in
     only_cut body (l ∷ ls) (at whole s) ∙ sym (only_cut body others (at whole t)) where
-  at : {ds bs : List ℕ} {ks : List (List (List ℕ))} → ds ≡ bs → IsText ds ks → IsText bs ks
-  at {ds} {bs} {ks} e k = subst (λ b. IsText b ks) e k
+      at : {ds bs : List ℕ} {ks : List (List (List ℕ))} → ds ≡ bs → IsText ds ks → IsText bs ks
+      at {ds} {bs} {ks} e k = subst (λ b. IsText b ks) e k

@@ -1,5 +1,5 @@
 -- The first fault of a text.
-use Rattle.std.proofs.Common.{◌≡◌, ◌≢◌, ◌==◌, ℕ, zero, suc, ◌+◌, ◌-◌, ◌<◌, ◌≤◌, ◌⊎◌, cond, List, [], ◌∷◌, map, length, get_or, refl, sym, ap, subst, ◌∙◌, inl, inr, arith}
+use Rattle.std.proofs.Common.{◌≡◌, ◌≢◌, ◌==◌, ℕ, suc, ◌+◌, ◌-◌, ◌<◌, ◌≤◌, ◌⊎◌, cond, List, [], ◌∷◌, map, length, get_or, refl, sym, ap, subst, ◌∙◌, inl, inr, arith}
 use Rattle.std.proofs.lemmas.Bool.{cases_lt}
 use Rattle.std.proofs.lemmas.Bool.Decides.{nat_tests}
 use Rattle.std.proofs.lemmas.List.{length-map, get_or_past, get_or_default}
@@ -12,14 +12,13 @@ use Rattle.table.specs.Places.{nth}
 use Rattle.sheets.specs.declared.form.Column.{Column}
 use Rattle.sheets.specs.declared.form.Column.TheVariants.{Processors, Overhead, Test, Task, Wcet, Period, Deadline, Estimate}
 use Rattle.sheets.specs.declared.form.Form.{Form}
-use Rattle.sheets.specs.Forms.{name_of, kind_of, columns_of, most_of, place}
-use Rattle.sheets.specs.Texts.{IsText}
-use Rattle.sheets.specs.Readers.{parts}
-use Rattle.sheets.specs.Reading.{IsSized, Heads, HasNames, IsOfKind, Allowed, IsValueLine, field, SameCount, Conforms, line_at_fault, MissedIn, Missed, is_late, Before, IsFirst, IsSheet}
-use Rattle.sheets.specs.Lines.{FitsAt, Fits, Misses, FirstFit, LinesMiss}
+use Rattle.sheets.specs.Forms.{name_of, kind_of, most_of, place}
+use Rattle.sheets.specs.Texts.{IsText, parts}
+use Rattle.sheets.specs.Reading.{IsSized, Heads, HasNames, IsOfKind, Allowed, IsValueLine, field, SameCount, Conforms, line_at_fault, MissedIn, Missed, is_late, IsFirst, IsSheet}
+use Rattle.sheets.specs.Lines.{FitsAt, Misses, FirstFit, LinesMiss}
 use Rattle.sheets.proofs.Parts.{get_or-map}
 use Rattle.sheets.proofs.Columns.{one_column}
-use Rattle.sheets.proofs.Cuts.{ended, cut, cut_is_text, only_cut, one_text}
+use Rattle.sheets.proofs.Cuts.{one_text}
 
 -- no column has the empty name
 named : (c : Column) → [] ≢ name_of c
@@ -195,15 +194,15 @@ module _ (form : Form) (text : List ℕ) (first : List ℕ) (ls : List (List ℕ
           (all, is_text, (at, λ few. m.1 (subst (Allowed form) (let e : length all - 1 ≡ length ls = omega (arith, length-map ls (parts 32)) in e) few))),
           λ other b missed. elim b [
             | inl early ↦ no_miss form first ls order heads other (omega arith)
-              (λ k w line_is field_is. count_before (length ls) m.0 k (omega (arith, w.1, length-map ls (parts 32))) w)
-              (λ k j w one more line_is field_is. kind_before (length ls) m.0 k j (omega (arith, w.1, length-map ls (parts 32))) w one more)
-              (in_all other missed)
+                (λ k w line_is field_is. count_before (length ls) m.0 k (omega (arith, w.1, length-map ls (parts 32))) w)
+                (λ k j w one more line_is field_is. kind_before (length ls) m.0 k j (omega (arith, w.1, length-map ls (parts 32))) w one more)
+                (in_all other missed)
             | inr late ↦
-              let here = place_late other late.0 (in_all other missed) in
-              elim late.1 [
-                | inl l ↦ omega (arith, ap (λ (q : Place). q.line) here, ap (λ (q : Place). q.line) at)
-                | inr l ↦ omega (arith, l.1)
-              ]
+                let here = place_late other late.0 (in_all other missed) in
+                elim late.1 [
+                  | inl l ↦ omega (arith, ap (λ (q : Place). q.line) here, ap (λ (q : Place). q.line) at)
+                  | inr l ↦ omega (arith, l.1)
+                ]
           ],
         )
 

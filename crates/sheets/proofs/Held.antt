@@ -1,13 +1,13 @@
 -- The fields of a sheet that was read.
-use Rattle.std.proofs.Common.{◌≡◌, ℕ, zero, suc, ◌+◌, ◌-◌, ◌<◌, ◌≤◌, List, [], map, length, get_or, sym, ap, subst, ◌∙◌, inl, inr, arith}
+use Rattle.std.proofs.Common.{◌≡◌, ℕ, zero, suc, ◌+◌, ◌-◌, ◌<◌, ◌≤◌, List, [], map, length, get_or, sym, ap, ◌∙◌, inl, inr, arith}
 use Rattle.std.proofs.lemmas.Bool.{cases_lt}
 use Rattle.std.proofs.lemmas.List.{length-map, get_or_default, get_or_past}
 use Rattle.table.specs.Places.{nth}
 use Rattle.table.proofs.Placed.{nth_at, nth_next, nth_none}
 use Rattle.sheets.specs.declared.form.Column.{Column}
 use Rattle.sheets.specs.declared.sheet.Sheet.{Sheet}
-use Rattle.sheets.specs.Readers.{parts}
-use Rattle.sheets.specs.Sheets.{order_of, lines_of, values_of, left_of, HasField, field_of}
+use Rattle.sheets.specs.Texts.{parts}
+use Rattle.sheets.specs.Sheets.{lines_of, values_of, left_of, HasField, field_of}
 use Rattle.sheets.proofs.Parts.{get_or-map}
 
 -- the k-th of the lines, parted

@@ -14,7 +14,7 @@ use Rattle.sheets.specs.declared.form.Form.TheVariants.{Board, Tasks, Answer}
 use Rattle.sheets.specs.Forms.{most_of, place}
 use Rattle.sheets.specs.Reading.{Allowed}
 use Rattle.sheets.specs.Lines.{Fits, Misses, FirstFit, LinesMiss}
-use Rattle.sheets.specs.Readers.{parts}
+use Rattle.sheets.specs.Texts.{parts}
 use Rattle.sheets.proofs.Parts.{next_left, get_or-map}
 
 module _ (form : Form) (columns : List Column) (lines : List (List ℕ)) (i : ℕ) (fit : FirstFit columns lines i) (bytes : List ℕ) (rest : List (List ℕ)) (e : drop i lines ≡ bytes ∷ rest) where
@@ -59,9 +59,10 @@ line_past n most some = grind (arith, nat_tests)
 -- a kept line by its number
 pub kept_at : (kept : List (Bor (List ℕ))) (n place k : ℕ) (d : Bor (List ℕ)) → k ≡ place + 1 → place < n → n ≤ length kept → (1 ≤ k) × (k ≤ length (map now_of (take n kept))) × ((get_or kept place d).now ≡ nth (map now_of (take n kept)) k [])
 kept_at kept n place k d is inside short =
-    let long : length (map now_of (take n kept)) ≡ n = length-map (take n kept) now_of ∙ length-take-le n kept short in
-    (omega arith, omega arith,
+    let long : length (map now_of (take n kept)) ≡ n = length-map (take n kept) now_of ∙ length-take-le n kept short in (
+      omega arith,
+      omega arith,
       ap now_of (sym (get_or-take n kept place d inside)) ∙ sym (get_or-map now_of (take n kept) place d)
-      ∙ get_or_default (map now_of (take n kept)) place (now_of d) [] (omega arith)
-      ∙ sym (nth_next (map now_of (take n kept)) place []) ∙ ap (λ i. nth (map now_of (take n kept)) i []) (sym is),
+          ∙ get_or_default (map now_of (take n kept)) place (now_of d) [] (omega arith)
+          ∙ sym (nth_next (map now_of (take n kept)) place []) ∙ ap (λ i. nth (map now_of (take n kept)) i []) (sym is),
     )

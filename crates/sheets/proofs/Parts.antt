@@ -5,11 +5,10 @@ use Rattle.std.proofs.lemmas.Bool.Decides.{nat_tests}
 use Rattle.std.proofs.lemmas.List.{drop-drop, get_or-drop, take_all, length-drop}
 use Rattle.std.proofs.lemmas.List.Sums.{prefix_len-le-length, fails_before_first}
 use Rattle.std.proofs.lemmas.List.Splits.{slice_split_first, slice_split_none}
-use Rattle.std.specs.List.{position, position_or_len, slice_split}
-use Rattle.std.specs.Option.{unwrap_or}
-use Rattle.std.specs.Option.{MatchOption}
+use Rattle.std.specs.List.{position, position_or_len}
+use Rattle.std.specs.Option.{unwrap_or, MatchOption}
 use Rattle.sheets.specs.declared.reader.Part.{Part}
-use Rattle.sheets.specs.Readers.{parts}
+use Rattle.sheets.specs.Texts.{parts}
 
 module _ {X : Type 0} (p : X → Bool) (xs : List X) where
   -- the first place that passes, or the length

@@ -1,18 +1,16 @@
 -- What reading gives, from what its parts give.
-use Rattle.std.proofs.Common.{◌≡◌, ℕ, ◌≤◌, ◌++◌, List, [], ◌∷◌, map, length, take, drop, Result, Ok, Err, refl, sym, ap, subst, ◌∙◌, arith}
+use Rattle.std.proofs.Common.{◌≡◌, ℕ, ◌≤◌, List, [], ◌∷◌, map, length, take, Result, Ok, Err, refl, sym, ap, subst, ◌∙◌, arith}
 use Rattle.std.specs.Result.{MatchResult, IsOk}
 use Rattle.table.specs.declared.fault.Fault.{Fault}
 use Rattle.table.specs.declared.fault.Fault.TheVariants.{BadNames}
-use Rattle.table.specs.declared.fault.Place.{Place}
 use Rattle.sheets.specs.declared.form.Column.{Column}
 use Rattle.sheets.specs.declared.form.Form.{Form}
 use Rattle.sheets.specs.declared.sheet.Sheet.{Sheet}
 use Rattle.sheets.specs.Forms.{columns_of, place}
-use Rattle.sheets.specs.Texts.{IsText}
-use Rattle.sheets.specs.Readers.{parts}
+use Rattle.sheets.specs.Texts.{IsText, parts}
 use Rattle.sheets.specs.Reading.{IsSized, Heads, HasNames, Allowed, IsFirst, IsSheet}
 use Rattle.sheets.specs.Lines.{FirstFit, LinesMiss}
-use Rattle.sheets.specs.Sheets.{order_of, lines_of, Reads}
+use Rattle.sheets.specs.Sheets.{lines_of, Reads}
 use Rattle.sheets.proofs.Cuts.{ended, some_part, cut_is_text}
 use Rattle.sheets.proofs.Firsts.{seen, names_first, lines_first, sheet_from, sheet_misses_none}
 

@@ -19,7 +19,7 @@ value-append (x ∷ xs) ys =
 -- with one more digit
 pub value_more : (xs : List ℕ) (i : ℕ) → i < length xs → value (take (i + 1) xs) ≡ 10 * value (take i xs) + (get_or xs i 0 - 48)
 unfolding value
-value_more xs i h = 
+value_more xs i h =
     ap value (take_more xs i 0 h) ∙ value-append (take i xs) (get_or xs i 0 ∷ []) ∙ omega arith
 
 grown : (v w p : ℕ) → 1 ≤ p → v ≤ v * p + w

@@ -7,7 +7,7 @@ use Rattle.sheets.specs.declared.form.Column.TheVariants.{Processors}
 use Rattle.sheets.specs.declared.form.Form.{Form}
 use Rattle.sheets.specs.Forms.{kind_of, most_of, place}
 use Rattle.sheets.specs.Reading.{IsOfKind, Allowed}
-use Rattle.sheets.specs.Readers.{parts}
+use Rattle.sheets.specs.Texts.{parts}
 
 -- the field at a place, counted from 0, has the form of its column's kind
 abbrev pub FitsAt : List Column → List (List ℕ) → ℕ → Type 0

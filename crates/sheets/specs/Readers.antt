@@ -1,11 +1,7 @@
--- What a reader has still to hand out. Only contracts of private functions cite these.
-use Rattle.std.specs.Prelude.{ℕ, ◌==◌, nat_le, List, [], length, drop, if◌then◌else◌}
-use Rattle.std.specs.List.{slice_split}
+-- What a reader has still to hand out. Only contracts of private functions cite it.
+use Rattle.std.specs.Prelude.{ℕ, nat_le, List, [], length, drop, if◌then◌else◌}
 use Rattle.sheets.specs.declared.reader.Reader.{Reader}
-
--- what stands before, between and behind the bytes mark
-abbrev pub parts : ℕ → List ℕ → List (List ℕ)
-parts mark text = slice_split (λ b. b == mark) text
+use Rattle.sheets.specs.Texts.{parts}
 
 -- the parts from the reader's place on; past the last part its place is one past the end
 abbrev pub left : Reader → List (List ℕ)

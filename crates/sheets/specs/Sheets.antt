@@ -8,7 +8,7 @@ use Rattle.std.specs.List.{position_or_len}
 use Rattle.std.specs.Str.{bytes_eq}
 use Rattle.table.specs.Places.{nth}
 use Rattle.sheets.specs.Forms.{name_of, columns_of}
-use Rattle.sheets.specs.Readers.{parts}
+use Rattle.sheets.specs.Texts.{parts}
 use Rattle.sheets.specs.Reading.{IsSheet, IsFirst}
 
 -- the columns of a sheet, from left to right

@@ -1,6 +1,6 @@
 -- What it is for a text to be lines of fields.
-use Rattle.std.specs.Prelude.{◌≡◌, ◌≢◌, ℕ, ◌≤◌, List, [], ◌∷◌, ◌++◌, length, flat_map, All}
-use Rattle.std.specs.List.{join_with_byte}
+use Rattle.std.specs.Prelude.{◌≡◌, ◌≢◌, ◌==◌, ℕ, ◌≤◌, List, [], ◌∷◌, ◌++◌, length, flat_map, All}
+use Rattle.std.specs.List.{join_with_byte, slice_split}
 
 -- a field holds no line feed and no space
 abbrev pub IsField : List ℕ → Type 0
@@ -18,3 +18,7 @@ text_of lines = flat_map (λ fields. line_of fields ++ 10 ∷ []) lines
 pub record IsText (text : List ℕ) (lines : List (List (List ℕ))) : Type 0 where
   pub whole : text ≡ text_of lines
   pub each : All (λ fields. (1 ≤ length fields) × All IsField fields) lines
+
+-- what stands before, between and behind the bytes mark of a text
+abbrev pub parts : ℕ → List ℕ → List (List ℕ)
+parts mark text = slice_split (λ b. b == mark) text

@@ -34,18 +34,12 @@ pub enum Form {
     Answer,
 }
 
-const BOARD: [Column; 3] = [Column::Processors, Column::Overhead, Column::Test];
-const TASKS: [Column; 4] = [
-    Column::Task,
-    Column::Wcet,
-    Column::Period,
-    Column::Deadline,
-];
-const ANSWER: [Column; 2] = [Column::Task, Column::Estimate];
+/// Room for the columns of a form.
+pub(crate) const ROOM: usize = 8;
 
 impl Column {
     /// The column of this name.
-    pub fn named(name: &[u8]) -> Option<Column>
+    pub(crate) fn named(name: &[u8]) -> Option<Column>
         ensures { MatchOption result ((c : Column) → name.now ≢ name_of c) (λ c. name.now ≡ name_of c) }
     {
         match name {
@@ -69,7 +63,7 @@ impl Column {
     }
 
     /// The kind of the fields under it.
-    pub fn kind(self) -> Kind
+    pub(crate) fn kind(self) -> Kind
         ensures { result ≡ kind_of self }
     {
         match self {
@@ -81,7 +75,7 @@ impl Column {
 
 impl Form {
     /// The number of the sheet.
-    pub fn sheet(self) -> u32
+    pub(crate) fn sheet(self) -> u32
         ensures { result ≡ sheet_of self }
     {
         match self {
@@ -92,18 +86,18 @@ impl Form {
     }
 
     /// Its columns.
-    pub fn columns(self) -> &'static [Column]
+    pub(crate) fn columns(self) -> &'static [Column]
         ensures { result.now ≡ columns_of self }
     {
         match self {
-            Form::Board => &BOARD,
-            Form::Tasks => &TASKS,
-            Form::Answer => &ANSWER,
+            Form::Board => &[Column::Processors, Column::Overhead, Column::Test],
+            Form::Tasks => &[Column::Task, Column::Wcet, Column::Period, Column::Deadline],
+            Form::Answer => &[Column::Task, Column::Estimate],
         }
     }
 
     /// The most value lines that it may have; the least is 1.
-    pub fn most(self) -> usize
+    pub(crate) fn most(self) -> usize
         ensures { result ≡ most_of self }
     {
         match self {

@@ -1,10 +1,11 @@
 // The columns that line 1 names.
 ghost use Rattle.std.specs.Prelude.{◌≡◌, ◌+◌, ◌≤◌, ◌↔◌, ◌∷◌, length, take, All, Contains, IsTrue, IfSome, MatchOption};
 ghost use Rattle.sheets.specs.Forms.{columns_of};
-ghost use Rattle.sheets.specs.Readers.{parts, left};
+ghost use Rattle.sheets.specs.Readers.{left};
+ghost use Rattle.sheets.specs.Texts.{parts};
 ghost use Rattle.sheets.specs.Reading.{Heads, HasNames};
 
-use crate::form::{Column, Form};
+use crate::form::{Column, Form, ROOM};
 use crate::reader::Reader;
 
 // Whether the column is in the list.
@@ -23,12 +24,12 @@ fn is_order(form: Form, given: &[Column]) -> bool
 }
 
 /// The columns from left to right, if they are the form's, each once; what stands past them is a filler.
-pub(crate) fn order_of(form: Form, names: &[u8]) -> Option<[Column; 4]>
+pub(crate) fn order_named(form: Form, names: &[u8]) -> Option<[Column; ROOM]>
     requires { length names.now ≤ 4096 }
     ensures { MatchOption result (HasNames form (parts 32 names.now) → ⊥) (λ order. Heads form (parts 32 names.now) (take (length (columns_of form)) order)) }
 {
     let columns = form.columns();
-    let mut order = [Column::Task; 4];
+    let mut order = [Column::Task; ROOM];
     let mut count = 0;
     let mut fields = Reader::new(names, b' ');
     while let Some(field) = fields.next() {
@@ -43,10 +44,10 @@ pub(crate) fn order_of(form: Form, names: &[u8]) -> Option<[Column; 4]>
 }
 
 /// The columns that the next line names, if they are the form's, each once.
-pub(crate) fn next_order(form: Form, lines: &mut Reader<'_>) -> Option<[Column; 4]>
+pub(crate) fn next_order(form: Form, lines: &mut Reader<'_>) -> Option<[Column; ROOM]>
     ensures order { MatchOption result ((names : _) (rest : _) → left lines.old ≡ names ∷ rest → HasNames form (parts 32 names) → ⊥) (λ order. (names : _) × (left lines.old ≡ names ∷ left lines.new) × Heads form (parts 32 names) (take (length (columns_of form)) order)) }
     ensures number { IfSome result (λ _. lines.new.number ≡ lines.old.number + 1) }
 {
     let names = lines.next()?;
-    order_of(form, names.bytes)
+    order_named(form, names.bytes)
 }

@@ -1,6 +1,6 @@
 // What a value line is asked.
 ghost use Rattle.std.specs.Prelude.{◌≡◌, ◌+◌, ◌<◌, ◌≤◌, ◌↔◌, [], length, slice_index_or, IsTrue, MatchOption, MatchResult};
-ghost use Rattle.sheets.specs.Readers.{parts};
+ghost use Rattle.sheets.specs.Texts.{parts};
 ghost use Rattle.sheets.specs.Reading.{IsOfKind};
 ghost use Rattle.sheets.specs.Lines.{FitsAt, Fits, Misses};
 

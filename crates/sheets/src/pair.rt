@@ -42,7 +42,10 @@ fn ask_answered(tasks: &Sheet<'_>, answer: &Sheet<'_>) -> Result<(), Fault>
     ensures { MatchResult result (λ _. EachLine (IsAnswered tasks.now answer.now) (count_of tasks.now)) (λ fault. (k : _) × (fault ≡ Fault.NoAnswer (place tasks.now.form (k + 1) 0)) × FirstLine (IsAnswered tasks.now answer.now) (count_of tasks.now) k) }
 {
     for i in 0..tasks.len() {
-        if answer.line_of(tasks.name(i + 1).bytes, answer.len()).is_none() {
+        if answer
+            .line_of(tasks.name(i + 1).bytes, answer.len())
+            .is_none()
+        {
             return Err(Fault::NoAnswer(tasks.line_place(i + 1)));
         }
     }

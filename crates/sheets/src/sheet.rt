@@ -4,13 +4,13 @@ ghost use Rattle.std.specs.Prelude.{◌≤◌, length, All};
 pub mod fields;
 pub mod read;
 
-use crate::form::{Column, Form};
+use crate::form::{Column, Form, ROOM};
 
 #[derive(Drop)]
 pub struct Sheet<'a> {
     form: Form,
     // From left to right; past the last column a filler.
-    order: [Column; 4],
+    order: [Column; ROOM],
     lines: [&'a [u8]; 32],
     len: usize,
     ghost few: { len ≤ 32 },

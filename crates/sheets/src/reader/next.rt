@@ -1,6 +1,7 @@
 // What a reader hands out, part by part.
 ghost use Rattle.std.specs.Prelude.{◌≡◌, ◌==◌, ◌+◌, ◌≤◌, [], ◌∷◌, length, position, IfSome, MatchOption};
-ghost use Rattle.sheets.specs.Readers.{parts, left};
+ghost use Rattle.sheets.specs.Readers.{left};
+ghost use Rattle.sheets.specs.Texts.{parts};
 
 use super::{Part, Reader};
 

@@ -54,7 +54,7 @@ impl<'a> Sheet<'a> {
     // How many columns stand left of one.
     fn left_of(&self, column: Column) -> usize
         ensures value { result ≡ left_of self.now column }
-        ensures few { result ≤ 4 }
+        ensures few { result ≤ 8 }
     {
         let columns = self.columns();
         place_of(columns, column).unwrap_or(columns.len())

@@ -8,14 +8,19 @@ ghost use Rattle.sheets.specs.Texts.{IsText};
 ghost use Rattle.sheets.specs.Sheets.{lines_of, Reads};
 
 use super::Sheet;
-use crate::form::{Column, Form};
+use crate::form::{Column, Form, ROOM};
 use crate::heading::next_order;
 use crate::line::ask_line;
 use crate::reader::Reader;
 use table::fault::Fault;
 
 // The value lines: line by line what each is asked, then how many they are.
-fn read_values<'a>(form: Form, order: [Column; 4], mut lines: Reader<'a>, filler: &'a [u8]) -> Result<Sheet<'a>, Fault>
+fn read_values<'a>(
+    form: Form,
+    order: [Column; ROOM],
+    mut lines: Reader<'a>,
+    filler: &'a [u8],
+) -> Result<Sheet<'a>, Fault>
     requires second { lines.number ≡ 1 }
     requires short { length filler.now ≤ 4096 }
     ensures { MatchResult result (λ s. (s.form ≡ form) × (s.order ≡ order) × (lines_of s ≡ left lines.entry) × FirstFit (take (length (columns_of form)) order) (left lines.entry) (length (left lines.entry)) × Allowed form (length (left lines.entry))) (λ fault. LinesMiss form (take (length (columns_of form)) order) (left lines.entry) fault) }

@@ -1,7 +1,6 @@
-use Rattle.std.proofs.Common.{◌≡◌, ◌+◌, ◌*◌, sym, ap, ◌∙◌, arith, rules}
-use Rattle.std.proofs.lemmas.List.{take_all}
-use Rattle.std.proofs.lemmas.List.Elements.{All-nil, All-more, All-same}
-use Rattle.sheets.specs.Fields.{IsDigit, value}
+use Rattle.std.proofs.Common.{◌+◌, arith, rules}
+use Rattle.std.proofs.lemmas.List.Elements.{All-nil, All-more}
+use Rattle.sheets.specs.Fields.{IsDigit}
 use Rattle.sheets.proofs.Values.{value-none, value_more, value-take-le}
 use Rattle.sheets.proofs.field.digits_value.Goals as goal
 

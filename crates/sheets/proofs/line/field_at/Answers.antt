@@ -1,5 +1,6 @@
 use Rattle.std.proofs.Common.{◌≡◌, ◌+◌, [], drop, sym, ap, ◌∙◌, arith}
-use Rattle.sheets.specs.Readers.{parts, left}
+use Rattle.sheets.specs.Readers.{left}
+use Rattle.sheets.specs.Texts.{parts}
 use Rattle.sheets.proofs.Parts.{next_left, none_left, part_at}
 use Rattle.sheets.proofs.line.field_at.Goals as goal
 

@@ -1,5 +1,6 @@
 use Rattle.std.proofs.Common.{◌≡◌, drop}
-use Rattle.sheets.specs.Readers.{parts, left}
+use Rattle.sheets.specs.Readers.{left}
+use Rattle.sheets.specs.Texts.{parts}
 use Rattle.sheets.proofs.line.field_at.Given as goal
 
 abbrev pub invariant-loop : goal.invariant-loop

@@ -1,8 +1,6 @@
-use Rattle.std.proofs.Common.{rules, ◌≡◌, ◌+◌, ◌<◌, ℕ, [], get_or, length, sym, ap, subst, ◌∙◌, below_more, arith}
-use Rattle.std.specs.Option.{MatchOption}
-use Rattle.sheets.specs.Lines.{FitsAt}
+use Rattle.std.proofs.Common.{◌+◌, [], get_or, sym, ap, subst, ◌∙◌, below_more, arith}
 use Rattle.sheets.specs.Reading.{IsOfKind}
-use Rattle.sheets.specs.Readers.{parts}
+use Rattle.sheets.specs.Texts.{parts}
 use Rattle.sheets.proofs.Parts.{next_left, none_left}
 use Rattle.sheets.proofs.line.first_misfit.Goals as goal
 
@@ -17,5 +15,5 @@ loop-column-preserved c =
       rest = here.1;
       counted = c.in_ok-field.ensures.number.1 ∙ ap (λ n. n + 1) c.loop-column.invariant.counted;
       fit = below_more _ _ c.loop-column.invariant.fit
-      (subst (λ k. IsOfKind k (get_or (parts 32 c.args.line.now) i [])) c.kind.ensures (subst (IsOfKind c.kind.result) (sym here.0) (c.is_of_kind.ensures.0 c.if-not-is_of_kind.false)));
+          (subst (λ k. IsOfKind k (get_or (parts 32 c.args.line.now) i [])) c.kind.ensures (subst (IsOfKind c.kind.result) (sym here.0) (c.is_of_kind.ensures.0 c.if-not-is_of_kind.false)));
     }

@@ -1,6 +1,7 @@
 use Rattle.std.proofs.Common.{◌≡◌, ℕ, ◌<◌, drop}
 use Rattle.sheets.specs.Lines.{FitsAt}
-use Rattle.sheets.specs.Readers.{parts, left}
+use Rattle.sheets.specs.Readers.{left}
+use Rattle.sheets.specs.Texts.{parts}
 use Rattle.sheets.proofs.line.first_misfit.Given as goal
 
 abbrev pub invariant-loop-column : goal.invariant-loop-column

@@ -1,4 +1,4 @@
-use Rattle.std.proofs.Common.{◌≡◌, ◌+◌, ℕ, sym, ap, ◌∙◌, arith}
+use Rattle.std.proofs.Common.{◌+◌, sym, ap, ◌∙◌, arith}
 use Rattle.table.specs.declared.fault.Fault.TheVariants.{NoAnswer}
 use Rattle.sheets.specs.Pairs.{IsAnswered, count_of}
 use Rattle.sheets.proofs.Paired.{each_more, first_line, some_line, no_line}
@@ -6,8 +6,9 @@ use Rattle.sheets.proofs.pair.ask_answered.Goals as goal
 
 pub returns-then-is_none : goal.returns-then-is_none
 returns-then-is_none c =
-    let none = no_line _ _ c.line_of.result c.if-is_none.ensures c.line_of.ensures in
-    (c.loop-i.i + 1, ap NoAnswer c.line_place.ensures,
+    let none = no_line _ _ c.line_of.result c.if-is_none.ensures c.line_of.ensures in (
+      c.loop-i.i + 1,
+      ap NoAnswer c.line_place.ensures,
       first_line (IsAnswered c.args.tasks.now c.args.answer.now) c.loop-i.i c.loop-i.invariant (count_of c.args.tasks.now) (omega (arith, c.len-i-end.ensures.count)) (λ h. none h.0 h.1 (omega (arith, h.2, c.len.ensures.count)) (h.3 ∙ sym c.name.ensures.name)),
     )
 

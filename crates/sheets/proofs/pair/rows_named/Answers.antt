@@ -1,5 +1,5 @@
-use Rattle.std.proofs.Common.{◌≡◌, ◌+◌, ◌<◌, ◌≤◌, ℕ, length, slice_set, refl, sym, ap, subst, ◌∙◌, arith}
-use Rattle.std.proofs.lemmas.List.{length-set, get_or-replicate, get_or_past}
+use Rattle.std.proofs.Common.{◌≡◌, ◌+◌, ◌<◌, ◌≤◌, length, slice_set, refl, sym, ap, subst, ◌∙◌, arith}
+use Rattle.std.proofs.lemmas.List.{length-set}
 use Rattle.table.specs.declared.fault.Fault.TheVariants.{BadAnswer}
 use Rattle.table.specs.Places.{nth}
 use Rattle.sheets.specs.Pairs.{Answers, IsRowOf, count_of}
@@ -44,8 +44,8 @@ loop-i-preserved c =
       each = each_more (Answers tasks answer) i c.loop-i.invariant.each ((row, told.0, high, same), λ k low less e. none k low (omega arith) (e ∙ sym c.name-name.ensures.name));
       size = length-set c.loop-i.rows i row ∙ c.loop-i.invariant.size;
       named = each_more (λ k. IsRowOf tasks answer k (nth (slice_set c.loop-i.rows i row) k 0)) i
-      (λ k low less. subst (IsRowOf tasks answer k) (sym (set_there c.loop-i.rows i row k low (λ e. omega arith))) (c.loop-i.invariant.named k low less))
-      (subst (IsRowOf tasks answer (i + 1)) (sym (set_here c.loop-i.rows i row inside)) (told.0, high, same));
+          (λ k low less. subst (IsRowOf tasks answer k) (sym (set_there c.loop-i.rows i row k low (λ e. omega arith))) (c.loop-i.invariant.named k low less))
+          (subst (IsRowOf tasks answer (i + 1)) (sym (set_here c.loop-i.rows i row inside)) (told.0, high, same));
       rest = λ k more. set_there c.loop-i.rows i row k (omega arith) (λ e. omega arith) ∙ c.loop-i.invariant.rest k (omega arith);
     }
 

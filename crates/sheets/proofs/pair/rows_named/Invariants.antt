@@ -1,4 +1,4 @@
-use Rattle.std.proofs.Common.{◌≡◌, ◌≤◌, ◌<◌, ℕ, length}
+use Rattle.std.proofs.Common.{◌≡◌, ◌<◌, ℕ, length}
 use Rattle.table.specs.Places.{nth}
 use Rattle.sheets.specs.Pairs.{Answers, EachLine, IsRowOf}
 use Rattle.sheets.proofs.pair.rows_named.Given as goal

@@ -1,4 +1,4 @@
-use Rattle.std.proofs.Common.{◌≡◌, ◌≤◌, ◌<◌, ℕ}
+use Rattle.std.proofs.Common.{◌≡◌, ◌≤◌, ℕ}
 use Rattle.sheets.specs.Pairs.{task_of}
 use Rattle.sheets.proofs.sheet.Sheet.line_of.Given as goal
 

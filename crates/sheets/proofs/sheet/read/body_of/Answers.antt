@@ -1,4 +1,4 @@
-use Rattle.std.proofs.Common.{◌≡◌, ◌++◌, ◌∷◌, [], ap, sym, subst, ◌∙◌, arith}
+use Rattle.std.proofs.Common.{◌++◌, ◌∷◌, [], ap, sym, ◌∙◌, arith}
 use Rattle.sheets.proofs.Cuts.{last_byte}
 use Rattle.sheets.proofs.sheet.read.body_of.Goals as goal
 use Rattle.sheets.proofs.sheet.read.body_of.Goals.{else-last-eq10-via-then-last-eq10+else-text-le4096, else-last-eq10-via-else-last-eq10}

@@ -1,4 +1,4 @@
-use Rattle.std.proofs.Common.{sym, ap, subst, ◌∙◌}
+use Rattle.std.proofs.Common.{sym, subst, ◌∙◌}
 use Rattle.table.specs.declared.fault.Fault.TheVariants.{BadNames}
 use Rattle.sheets.specs.Reading.{IsFirst}
 use Rattle.sheets.proofs.Readings.{no_names, values_read}

@@ -1,4 +1,4 @@
-use Rattle.std.proofs.Common.{rules, ◌≡◌, ◌≤◌, ◌+◌, ◌<◌, ℕ, List, [], map, length, take, drop, refl, sym, ap, subst, ◌∙◌, arith}
+use Rattle.std.proofs.Common.{◌≤◌, ◌+◌, ◌<◌, ℕ, List, [], map, length, take, refl, sym, ap, subst, ◌∙◌, arith}
 use Rattle.std.specs.List.{All}
 use Rattle.std.proofs.lemmas.List.{length-drop, length-set, take_all}
 use Rattle.std.proofs.lemmas.Result.{err_from_is_err_and}
@@ -7,7 +7,8 @@ use denote.Bor.{Bor}
 use Rattle.sheets.specs.Forms.{columns_of, most_of, place}
 use Rattle.sheets.specs.declared.form.Column.{Column}
 use Rattle.sheets.specs.Lines.{Fits, Misses}
-use Rattle.sheets.specs.Readers.{parts, left}
+use Rattle.sheets.specs.Readers.{left}
+use Rattle.sheets.specs.Texts.{parts}
 use Rattle.sheets.proofs.Parts.{next_left, none_left}
 use Rattle.sheets.proofs.Lined.{miss_here, fit_here, kept_more, count_miss, few_lines, line_past}
 use Rattle.sheets.proofs.sheet.read.read_values.Goals as goal

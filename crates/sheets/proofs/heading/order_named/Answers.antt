@@ -1,12 +1,12 @@
-use Rattle.std.proofs.Common.{rules, ◌≡◌, ◌+◌, ◌<◌, ◌++◌, Bool, true, false, Option, map, length, take, refl, sym, ap, subst, ◌∙◌, arith}
+use Rattle.std.proofs.Common.{◌<◌, ◌++◌, map, length, take, sym, ap, subst, ◌∙◌, arith}
 use Rattle.std.specs.Option.{MatchOption}
-use Rattle.std.specs.Bool.{then_some}
-use Rattle.std.proofs.lemmas.List.{append-nil, append_assoc, map-append, take_more_set, length-take-le, length-set}
+use Rattle.std.proofs.lemmas.List.{append-nil, length-take-le, length-set}
 use Rattle.sheets.specs.Forms.{name_of, columns_of}
-use Rattle.sheets.specs.Readers.{parts, left}
+use Rattle.sheets.specs.Readers.{left}
+use Rattle.sheets.specs.Texts.{parts}
 use Rattle.sheets.specs.Reading.{Heads, HasNames}
 use Rattle.sheets.proofs.Columns.{few_columns, named_more, stray_name, too_many, heads_by}
-use Rattle.sheets.proofs.heading.order_of.Goals as goal
+use Rattle.sheets.proofs.heading.order_named.Goals as goal
 
 pub returns-in_err-column : goal.returns-in_err-column
 returns-in_err-column c =
@@ -30,7 +30,7 @@ loop-field-preserved c =
     }
 
 pub returns : goal.returns
-returns c = 
+returns c =
     let count = c.loop-field.count in
     heads_by c.args.form (parts 32 c.args.names.now) c.loop-field.order count c.is_order.result c.then_some.result
     (c.loop-field.invariant.whole ∙ ap (λ ls. map name_of (take count c.loop-field.order) ++ ls) c.in_default.ensures.left ∙ append-nil (map name_of (take count c.loop-field.order)))
