@@ -65,9 +65,10 @@ impl<'a> Sheet<'a> {
         ensures line { MatchOption result ((1 ≤ k) × (k ≤ length (lines_of self.now)) → ⊥) (λ line. (1 ≤ k) × (k ≤ length (lines_of self.now)) × (line.now ≡ nth (lines_of self.now) k [])) }
         ensures small { IfSome result (λ line. (k ≤ 32) × (length line.now ≤ 4096)) }
     {
+        let Sheet { lines, len, .. } = self;
         let place = k.checked_sub(1)?;
-        if place < self.len {
-            Some(self.lines[place])
+        if place < *len {
+            Some(lines[place])
         } else {
             None
         }

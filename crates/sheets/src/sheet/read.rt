@@ -14,6 +14,9 @@ use crate::line::ask_line;
 use crate::reader::Reader;
 use table::fault::Fault;
 
+// The most bytes that a text may have.
+const LONGEST: usize = 4096;
+
 // The value lines: line by line what each is asked, then how many they are.
 fn read_values<'a>(
     form: Form,
@@ -54,7 +57,7 @@ fn body_of(text: &[u8]) -> Option<&[u8]>
     ensures { MatchOption result (IsSized text.now → ⊥) (λ body. IsSized text.now × (text.now ≡ body.now ++ 10 ∷ [])) }
 {
     let (last, body) = text.split_last()?;
-    if *last == b'\n' && text.len() <= 4096 {
+    if *last == b'\n' && text.len() <= LONGEST {
         Some(body)
     } else {
         None
