@@ -339,7 +339,9 @@ mod tests {
                         match read(Form::Tasks, &text) {
                             Ok(sheet) => {
                                 assert!(rt; each_once);
-                                assert!(rt; field_of(&sheet, 1, Column::Task)?.bytes == b"a".as_slice());
+                                assert!(rt;
+                                    field_of(&sheet, 1, Column::Task)?.bytes == b"a".as_slice()
+                                );
                                 assert_eq!(rt; number_of(&sheet, 1, Column::Wcet)?, Some(3));
                                 assert_eq!(rt; number_of(&sheet, 1, Column::Period)?, Some(5));
                                 assert_eq!(rt; number_of(&sheet, 1, Column::Deadline)?, Some(4));

@@ -1,8 +1,9 @@
 // Reading a text.
 ghost use Rattle.std.specs.Prelude.{◌≡◌, ◌≤◌, ◌<◌, [], ◌∷◌, ◌++◌, length, take, List, ℕ, IsOk, MatchOption, MatchResult};
+ghost use Rattle.table.specs.declared.fault.Fault.{Fault};
 ghost use Rattle.sheets.specs.Forms.{columns_of};
 ghost use Rattle.sheets.specs.Readers.{left};
-ghost use Rattle.sheets.specs.Reading.{Allowed, IsSized, IsSheet};
+ghost use Rattle.sheets.specs.Reading.{Allowed, IsSized, IsFirst, IsSheet};
 ghost use Rattle.sheets.specs.Lines.{FirstFit, LinesMiss};
 ghost use Rattle.sheets.specs.Texts.{IsText};
 ghost use Rattle.sheets.specs.Sheets.{lines_of, Reads};
@@ -81,10 +82,12 @@ fn read_text<'a>(form: Form, text: &'a [u8]) -> Result<Sheet<'a>, Fault>
 /// Reads a text as a sheet of the form.
 pub fn read<'a>(form: Form, text: &'a [u8]) -> Result<Sheet<'a>, Fault>
     ensures read { Reads form text.now result }
-    // What is a sheet is read.
+    // What is a sheet is read, so a fault is given for what is none.
     ensures whole { (lines : List (List (List ℕ))) (order : _) → IsSheet form text.now lines order → IsOk result }
     // A text is of no other lines.
     ensures one { (lines others : List (List (List ℕ))) → IsText text.now lines → IsText text.now others → lines ≡ others }
+    // It has no other first fault.
+    ensures first { (f g : Fault) → IsFirst form text.now f → IsFirst form text.now g → f ≡ g }
 {
     read_text(form, text)
 }

@@ -1,4 +1,5 @@
 use Rattle.sheets.proofs.Cuts.{one_text}
+use Rattle.sheets.proofs.Outcomes.{one_first}
 use Rattle.sheets.proofs.Readings.{sheet_is_read}
 use Rattle.sheets.proofs.sheet.read.read.Goals as goal
 
@@ -7,3 +8,6 @@ returns-clause-whole c = sheet_is_read c.args.form c.args.text.now c.read_text.r
 
 pub returns-clause-one : goal.returns-clause-one
 returns-clause-one c = one_text c.args.text.now
+
+pub returns-clause-first : goal.returns-clause-first
+returns-clause-first c = one_first c.args.form c.args.text.now
