@@ -17,7 +17,7 @@ FitsAt columns fields j = IsOfKind (kind_of (slice_index_or columns j Processors
 abbrev pub Fits : List Column → List (List ℕ) → Type 0
 Fits columns fields = (length fields ≡ length columns) × ((j : ℕ) → j < length columns → FitsAt columns fields j)
 
--- the fault is the first of a line
+-- the fault is the first of a line with these fields
 abbrev pub Misses : Form → List Column → ℕ → List (List ℕ) → Fault → Type 0
 Misses form columns line fields fault =
     ((length fields ≡ length columns → ⊥) × (fault ≡ BadFieldCount (place form line 0)))
@@ -27,7 +27,7 @@ Misses form columns line fields fault =
 abbrev pub FirstFit : List Column → List (List ℕ) → ℕ → Type 0
 FirstFit columns lines n = (i : ℕ) → i < n → Fits columns (parts 32 (slice_index_or lines i []))
 
--- the fault is the first of these value lines, of which the first is line 2
+-- the fault is the first of these value lines, which begin with line 2
 abbrev pub LinesMiss : Form → List Column → List (List ℕ) → Fault → Type 0
 LinesMiss form columns lines fault =
     ((i : ℕ) × (i < length lines) × FirstFit columns lines i × Misses form columns (i + 2) (parts 32 (slice_index_or lines i [])) fault)

@@ -21,19 +21,23 @@ task_of s k = field_of s k Task
 abbrev pub name_place : Sheet → ℕ → Place
 name_place s k = place s.form (k + 1) (left_of s Task + 1)
 
--- the name of the k-th value line stands in no earlier one
+-- question 6: the name of the k-th value line stands in no earlier one
 abbrev pub IsNew : Sheet → ℕ → Type 0
 IsNew s k = (i : ℕ) → 1 ≤ i → i < k → task_of s i ≡ task_of s k → ⊥
 
+-- the k-th value line has the name
+abbrev pub HasTaskAt : Sheet → List ℕ → ℕ → Type 0
+HasTaskAt s name k = (1 ≤ k) × (k ≤ count_of s) × (task_of s k ≡ name)
+
 -- one of the value lines has the name
 abbrev pub HasTask : Sheet → List ℕ → Type 0
-HasTask s name = (k : ℕ) × (1 ≤ k) × (k ≤ count_of s) × (task_of s k ≡ name)
+HasTask s name = (k : ℕ) × HasTaskAt s name k
 
--- the name of the k-th value line of the answer stands on the tasks sheet, and in no earlier line of the answer
+-- question 7: the name of the k-th value line of the answer stands on the tasks sheet, and in no earlier line of the answer
 abbrev pub Answers : Sheet → Sheet → ℕ → Type 0
 Answers tasks answer k = HasTask tasks (task_of answer k) × IsNew answer k
 
--- the task of the k-th value line stands on the answer sheet
+-- question 8: the task of the k-th value line stands on the answer sheet
 abbrev pub IsAnswered : Sheet → Sheet → ℕ → Type 0
 IsAnswered tasks answer k = HasTask answer (task_of tasks k)
 
@@ -52,14 +56,10 @@ PairMisses tasks answer (BadAnswer p) = EachLine (IsNew tasks) (count_of tasks) 
 PairMisses tasks answer (NoAnswer p) = EachLine (IsNew tasks) (count_of tasks) × EachLine (Answers tasks answer) (count_of answer) × ((k : ℕ) × (p ≡ place tasks.form (k + 1) 0) × FirstLine (IsAnswered tasks answer) (count_of tasks) k)
 PairMisses tasks answer fault = ⊥
 
--- the k-th value line of the answer names this row
-abbrev pub IsRowOf : Sheet → Sheet → ℕ → ℕ → Type 0
-IsRowOf tasks answer k row = (1 ≤ row) × (row ≤ count_of tasks) × (task_of tasks row ≡ task_of answer k)
-
 -- a list has in its k-th place the row that the k-th value line of the answer names; 0 past the last one
 pub record Rows (tasks answer : Sheet) (rows : List ℕ) : Type 0 where
   pub size : length rows ≡ 32
-  pub named : EachLine (λ k. IsRowOf tasks answer k (nth rows k 0)) (count_of answer)
+  pub named : EachLine (λ k. HasTaskAt tasks (task_of answer k) (nth rows k 0)) (count_of answer)
   pub rest : (k : ℕ) → count_of answer < k → nth rows k 0 ≡ 0
 
 -- pairing: the rows that are named, where no question is missed, or the first fault

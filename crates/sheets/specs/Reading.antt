@@ -1,4 +1,4 @@
--- What is asked of a text, and what it is to read it.
+-- What is asked of a text, which fault is the first, and what it is for a text to be a sheet.
 use Rattle.std.specs.Prelude.{◌≡◌, ℕ, ◌+◌, ◌-◌, ◌<◌, ◌≤◌, ◌⊎◌, ◌==◌, if◌then◌else◌, List, [], map, length, All, Contains}
 use Rattle.table.specs.declared.fault.Fault.{Fault}
 use Rattle.table.specs.declared.fault.Fault.TheVariants.{BadText, BadNames, BadFieldCount, BadField, BadLineCount}
@@ -12,17 +12,17 @@ use Rattle.sheets.specs.Fields.{IsName, Writes}
 use Rattle.sheets.specs.Forms.{name_of, kind_of, columns_of, most_of, place}
 use Rattle.sheets.specs.Texts.{IsText}
 
--- the text has 1 to 4,096 bytes, of which the last is a line feed
+-- question 1: the text has 1 to 4,096 bytes, of which the last is a line feed
 abbrev pub IsSized : List ℕ → Type 0
 IsSized text = (1 ≤ length text) × (length text ≤ 4096) × (nth text (length text) 0 ≡ 10)
 
--- Line 1 has the names of these columns, from left to right: as many columns as the form has, and each of the form's among them, so each once.
+-- Line 1 has the names of these columns, from left to right: they are as many as the form's, and each of the form's is among them, so each once.
 pub record Heads (form : Form) (names : List (List ℕ)) (order : List Column) : Type 0 where
   pub named : names ≡ map name_of order
   pub size : length order ≡ length (columns_of form)
   pub each : All (Contains order) (columns_of form)
 
--- line 1 has the names of the form's columns, each once
+-- question 2: line 1 has the names of the form's columns, each once, in some order
 abbrev pub HasNames : Form → List (List ℕ) → Type 0
 HasNames form names = (order : List Column) × Heads form names order
 
@@ -31,7 +31,7 @@ abbrev pub IsOfKind : Kind → List ℕ → Type 0
 IsOfKind Name field = IsName field
 IsOfKind Number field = (n : ℕ) × Writes field n
 
--- a sheet of a form may have so many value lines
+-- question 5: a sheet of a form may have so many value lines
 abbrev pub Allowed : Form → ℕ → Type 0
 Allowed form n = (1 ≤ n) × (n ≤ most_of form)
 
@@ -43,19 +43,19 @@ IsValueLine lines k = (2 ≤ k) × (k ≤ length lines)
 abbrev pub field : List (List (List ℕ)) → ℕ → ℕ → List ℕ
 field lines k j = nth (nth lines k []) j []
 
--- line k has as many fields as line 1
+-- question 3: line k has as many fields as line 1
 abbrev pub SameCount : List (List (List ℕ)) → ℕ → Type 0
 SameCount lines k = length (nth lines k []) ≡ length (nth lines 1 [])
 
--- field j of line k has the form of its kind: of the kind that its column has, by the name in line 1
+-- question 4: field j of line k has the form of its kind, which is that of the column whose name stands over it in line 1
 abbrev pub Conforms : List (List (List ℕ)) → ℕ → ℕ → Type 0
 Conforms lines k j = (c : Column) → field lines 1 j ≡ name_of c → IsOfKind (kind_of c) (field lines k j)
 
--- the line at fault where the number of value lines is not allowed: line 1 if there are none, otherwise the first that is too many
+-- where question 5 is missed: line 1 if there is no value line, otherwise the first line that is too many
 abbrev pub line_at_fault : Form → List (List (List ℕ)) → ℕ
 line_at_fault form lines = if length lines == 1 then 1 else most_of form + 2
 
--- in a text of these lines one of the questions 2 to 5 is missed at the fault's place
+-- in a text of these lines the fault's question, one of 2 to 5, is missed at the fault's place
 abbrev pub MissedIn : Form → List (List (List ℕ)) → Fault → Type 0
 MissedIn form lines (BadNames p) = (p ≡ place form 1 0) × (HasNames form (nth lines 1 []) → ⊥)
 MissedIn form lines (BadFieldCount p) = (k : ℕ) × (p ≡ place form k 0) × IsValueLine lines k × (SameCount lines k → ⊥)
@@ -63,23 +63,23 @@ MissedIn form lines (BadField p) = (k j : ℕ) × (p ≡ place form k j) × IsVa
 MissedIn form lines (BadLineCount p) = (p ≡ place form (line_at_fault form lines) 0) × (Allowed form (length lines - 1) → ⊥)
 MissedIn form lines fault = ⊥
 
--- one of the questions 1 to 5 is missed at the fault's place
+-- the fault's question, one of 1 to 5, is missed at the fault's place
 abbrev pub Missed : Form → List ℕ → Fault → Type 0
 Missed form text (BadText p) = (p ≡ place form 0 0) × (IsSized text → ⊥)
 Missed form text fault = (lines : List (List (List ℕ))) × IsText text lines × MissedIn form lines fault
 
--- question 5 is asked when all lines are read
+-- 1 for question 5, which is asked when all lines are read; 0 for the others
 abbrev pub is_late : Fault → ℕ
 is_late (BadLineCount p) = 1
 is_late fault = 0
 
--- A question is asked before another one: question 5 comes last. Of the others the lower line comes first, and in a line the whole line (field 0) before its fields from left to right.
+-- One fault comes before another: question 5 is asked last; of the others that of the lower line is asked first, and in a line that of the whole line (field 0) before those of its fields, from left to right.
 abbrev pub Before : Fault → Fault → Type 0
 Before f g =
     (is_late f < is_late g)
     ⊎ ((is_late f ≡ is_late g) × (((place_of f).line < (place_of g).line) ⊎ (((place_of f).line ≡ (place_of g).line) × ((place_of f).field < (place_of g).field))))
 
--- the fault is the first: its question is missed there, and none that is asked before
+-- the fault is the first of a text: its question is missed at its place, and no fault that comes before is missed
 abbrev pub IsFirst : Form → List ℕ → Fault → Type 0
 IsFirst form text fault = Missed form text fault × ((other : Fault) → Before other fault → Missed form text other → ⊥)
 

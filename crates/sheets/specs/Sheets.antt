@@ -1,4 +1,4 @@
--- What a sheet that was read has, and reading.
+-- What a sheet that was read has, and what it is to read one.
 use Rattle.std.specs.Prelude.{◌≡◌, ℕ, ◌+◌, ◌<◌, ◌≤◌, List, [], map, length, take, drop, Result, MatchResult}
 use Rattle.table.specs.declared.fault.Fault.{Fault}
 use Rattle.sheets.specs.declared.form.Column.{Column}
@@ -15,15 +15,15 @@ use Rattle.sheets.specs.Reading.{IsSheet, IsFirst}
 abbrev pub order_of : Sheet → List Column
 order_of s = take (length (columns_of s.form)) s.order
 
--- its value lines, as parts of the text
+-- the value lines of a sheet, as parts of the text
 abbrev pub lines_of : Sheet → List (List ℕ)
 lines_of s = map (λ line. line.now) (take s.len s.lines)
 
--- its value lines, as what stands between their spaces
+-- the value lines of a sheet, as their fields: what stands between their spaces
 abbrev pub values_of : Sheet → List (List (List ℕ))
 values_of s = map (parts 32) (lines_of s)
 
--- how many columns stand left of one; all where it is none of the sheet's
+-- how many columns stand to the left of one; all of them where it is none of the sheet's
 abbrev pub left_of : Sheet → Column → ℕ
 left_of s c = position_or_len (λ d. bytes_eq (name_of d) (name_of c)) (order_of s)
 
@@ -31,11 +31,11 @@ left_of s c = position_or_len (λ d. bytes_eq (name_of d) (name_of c)) (order_of
 abbrev pub HasField : Sheet → ℕ → Column → Type 0
 HasField s k c = (1 ≤ k) × (k ≤ length (values_of s)) × (left_of s c < length (nth (values_of s) k []))
 
--- that field; no byte where there is none
+-- the field under a column in the k-th value line; no byte where there is none
 abbrev pub field_of : Sheet → ℕ → Column → List ℕ
 field_of s k c = nth (nth (values_of s) k []) (left_of s c + 1) []
 
--- the sheet is of this form, with the columns in this order, and its value lines are those of these lines
+-- the sheet has this form, its columns in this order, and all of these lines but line 1 as its value lines
 abbrev pub Shows : Form → List (List (List ℕ)) → List Column → Sheet → Type 0
 Shows form lines order s = (s.form ≡ form) × (order_of s ≡ order) × (values_of s ≡ drop 1 lines)
 

@@ -14,7 +14,7 @@ line_of fields = join_with_byte 32 fields
 abbrev pub text_of : List (List (List ℕ)) → List ℕ
 text_of lines = flat_map (λ fields. line_of fields ++ 10 ∷ []) lines
 
--- a text is of these lines: it is their fields and what stands between them, and each line has a field
+-- a text is of these lines of fields, of which each has one at least
 pub record IsText (text : List ℕ) (lines : List (List (List ℕ))) : Type 0 where
   pub whole : text ≡ text_of lines
   pub each : All (λ fields. (1 ≤ length fields) × All IsField fields) lines

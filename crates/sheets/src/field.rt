@@ -1,6 +1,8 @@
-// What a field is: a name, or a number.
+// What a field is: a part of the text that is a name, or writes a number.
 ghost use Rattle.std.specs.Prelude.{◌≡◌, ◌≤◌, ◌↔◌, IsTrue, MatchOption, All};
 ghost use Rattle.sheets.specs.Fields.{IsName, IsNameByte, IsDigit, value, Writes};
+
+use table::fault::Place;
 
 /// The greatest number that a field may write.
 const MOST: u32 = 1_000_000;
@@ -43,5 +45,21 @@ pub(crate) fn number(field: &[u8]) -> Option<u32>
         [b'0'] => Some(0),
         [b'1'..=b'9', ..] => digits_value(field),
         _ => None,
+    }
+}
+
+/// A field: a part of the text, and where it stands on the sheet.
+#[derive(Clone, Copy)]
+pub struct Field<'a> {
+    pub bytes: &'a [u8],
+    pub place: Place,
+}
+
+impl Field<'_> {
+    /// The number that the field writes.
+    pub fn number(&self) -> Option<u32>
+        ensures { MatchOption result ((n : _) → Writes self.now.bytes.now n → ⊥) (λ n. Writes self.now.bytes.now n) }
+    {
+        number(self.bytes)
     }
 }

@@ -20,8 +20,8 @@ pub enum Column {
 }
 
 /// What a field under a column is.
-#[derive(Clone, Copy, PartialEq, Eq, Debug)]
-pub enum Kind {
+#[derive(Clone, Copy)]
+pub(crate) enum Kind {
     Name,
     Number,
 }

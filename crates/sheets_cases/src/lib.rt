@@ -4,11 +4,10 @@
 
 #[cfg(test)]
 mod tests {
+    use sheets::field::Field;
     use sheets::form::{Column, Form};
     use sheets::pair::pair;
     use sheets::sheet::Sheet;
-    use sheets::sheet::fields::Field;
-    use sheets::sheet::read::read;
     use std::alloc::{AllocError, Global};
     use std::process::Abort;
     use std::test::Fail;
@@ -46,7 +45,13 @@ mod tests {
             Form::Answer => 3,
         };
         let place = Place { sheet, line, field };
-        refused(rt, read(form, text.as_bytes()), number, Layer::Sheet, place)
+        refused(
+            rt,
+            Sheet::read(form, text.as_bytes()),
+            number,
+            Layer::Sheet,
+            place,
+        )
     }
 
     // The same of an answer sheet.
@@ -74,7 +79,7 @@ mod tests {
 
     // The only estimate of an answer sheet.
     fn estimate_in(text: &str) -> Result<Option<u32>, Fail> {
-        let sheet = read(Form::Answer, text.as_bytes())?;
+        let sheet = Sheet::read(Form::Answer, text.as_bytes())?;
         number_of(&sheet, 1, Column::Estimate)
     }
 
@@ -92,7 +97,7 @@ mod tests {
     #[test]
     fn reads_the_fields(rt: HostRuntime) -> Result<(), Fail> {
         let text = "wcet task deadline period\n2 a 4 5\n1000000 b-2 0 7\n";
-        let sheet = read(Form::Tasks, text.as_bytes())?;
+        let sheet = Sheet::read(Form::Tasks, text.as_bytes())?;
         assert_eq!(rt; sheet.len(), 2);
         let name = field_of(&sheet, 2, Column::Task)?;
         assert!(rt; name.bytes == b"b-2".as_slice());
@@ -118,7 +123,7 @@ mod tests {
 
     #[test]
     fn reads_a_board(rt: HostRuntime) -> Result<(), Fail> {
-        let sheet = read(Form::Board, b"test processors overhead\nrta 2 0\n")?;
+        let sheet = Sheet::read(Form::Board, b"test processors overhead\nrta 2 0\n")?;
         assert_eq!(rt; sheet.len(), 1);
         assert!(rt; field_of(&sheet, 1, Column::Test)?.bytes == b"rta".as_slice());
         assert_eq!(rt; number_of(&sheet, 1, Column::Processors)?, Some(2));
@@ -165,7 +170,13 @@ mod tests {
                 line: 2,
                 field: 2,
             };
-            refused(&rt, read(Form::Answer, &text), 4, Layer::Sheet, place)?;
+            refused(
+                &rt,
+                Sheet::read(Form::Answer, &text),
+                4,
+                Layer::Sheet,
+                place,
+            )?;
         }
         Ok(())
     }
@@ -177,7 +188,7 @@ mod tests {
             text.extend_from_slice(b"task estimate\n")?;
             text.extend_from_slice(name.as_bytes())?;
             text.extend_from_slice(b" 1\n")?;
-            let sheet = read(Form::Answer, &text)?;
+            let sheet = Sheet::read(Form::Answer, &text)?;
             assert!(rt; field_of(&sheet, 1, Column::Task)?.bytes == name.as_bytes());
         }
         no_answer(&rt, "task estimate\nabcdefghij-123456 1\n", 4, 2, 1)?;
@@ -209,7 +220,7 @@ mod tests {
         };
         refused(
             &rt,
-            read(Form::Answer, &text[..4096]),
+            Sheet::read(Form::Answer, &text[..4096]),
             2,
             Layer::Sheet,
             line_1,
@@ -219,7 +230,13 @@ mod tests {
             line: 0,
             field: 0,
         };
-        refused(&rt, read(Form::Answer, &text), 1, Layer::Sheet, nowhere)
+        refused(
+            &rt,
+            Sheet::read(Form::Answer, &text),
+            1,
+            Layer::Sheet,
+            nowhere,
+        )
     }
 
     #[test]
@@ -277,7 +294,7 @@ mod tests {
         let two = "processors overhead test\n2 0 rta\n2 0 rta\n";
         no_sheet(&rt, Form::Board, two, 5, 3, 0)?;
         let text = long_answer(rt.alloc(), 32, "")?;
-        let sheet = read(Form::Answer, &text)?;
+        let sheet = Sheet::read(Form::Answer, &text)?;
         assert_eq!(rt; sheet.len(), 32);
         let last = field_of(&sheet, 32, Column::Estimate)?;
         assert_eq!(rt;
@@ -294,23 +311,47 @@ mod tests {
             line: 34,
             field: 0,
         };
-        refused(&rt, read(Form::Answer, &many), 5, Layer::Sheet, line_34)?;
+        refused(
+            &rt,
+            Sheet::read(Form::Answer, &many),
+            5,
+            Layer::Sheet,
+            line_34,
+        )?;
         let more = long_answer(rt.alloc(), 40, "")?;
-        refused(&rt, read(Form::Answer, &more), 5, Layer::Sheet, line_34)?;
+        refused(
+            &rt,
+            Sheet::read(Form::Answer, &more),
+            5,
+            Layer::Sheet,
+            line_34,
+        )?;
         let bad = long_answer(rt.alloc(), 32, "a 01\n")?;
         let field_2 = Place {
             sheet: 3,
             line: 34,
             field: 2,
         };
-        refused(&rt, read(Form::Answer, &bad), 4, Layer::Sheet, field_2)?;
+        refused(
+            &rt,
+            Sheet::read(Form::Answer, &bad),
+            4,
+            Layer::Sheet,
+            field_2,
+        )?;
         let later = long_answer(rt.alloc(), 33, "a\n")?;
         let line_35 = Place {
             sheet: 3,
             line: 35,
             field: 0,
         };
-        refused(&rt, read(Form::Answer, &later), 3, Layer::Sheet, line_35)
+        refused(
+            &rt,
+            Sheet::read(Form::Answer, &later),
+            3,
+            Layer::Sheet,
+            line_35,
+        )
     }
 
     // Appends words with one space between two, and a line feed.
@@ -336,7 +377,7 @@ mod tests {
                         push_line(&mut text, &[names[a], names[b], names[c], names[d]])?;
                         push_line(&mut text, &[values[a], values[b], values[c], values[d]])?;
                         let each_once = a != b && a != c && a != d && b != c && b != d && c != d;
-                        match read(Form::Tasks, &text) {
+                        match Sheet::read(Form::Tasks, &text) {
                             Ok(sheet) => {
                                 assert!(rt; each_once);
                                 assert!(rt;
@@ -368,7 +409,7 @@ mod tests {
                     let mut text = Vec::new(rt.alloc());
                     push_line(&mut text, &[names[a], names[b], names[c]])?;
                     push_line(&mut text, &[values[a], values[b], values[c]])?;
-                    let sheet = read(Form::Board, &text);
+                    let sheet = Sheet::read(Form::Board, &text);
                     assert_eq!(rt; sheet.is_ok(), a != b && a != c && b != c);
                 }
             }
@@ -378,8 +419,8 @@ mod tests {
 
     // Reads both sheets and pairs them.
     fn paired(tasks: &str, answer: &str) -> Result<[usize; 32], Fault> {
-        let tasks = read(Form::Tasks, tasks.as_bytes())?;
-        let answer = read(Form::Answer, answer.as_bytes())?;
+        let tasks = Sheet::read(Form::Tasks, tasks.as_bytes())?;
+        let answer = Sheet::read(Form::Answer, answer.as_bytes())?;
         pair(&tasks, &answer)
     }
 

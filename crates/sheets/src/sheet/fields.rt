@@ -1,32 +1,15 @@
-// The fields of a sheet.
+// The fields of a sheet that was read.
 ghost use Rattle.std.specs.Prelude.{◌≡◌, ◌+◌, ◌<◌, ◌≤◌, [], length, position, bytes_eq, IfSome, MatchOption};
 ghost use Rattle.table.specs.Places.{nth};
 ghost use Rattle.sheets.specs.Forms.{name_of, place};
-ghost use Rattle.sheets.specs.Fields.{Writes};
 ghost use Rattle.sheets.specs.Sheets.{order_of, lines_of, values_of, left_of, HasField, field_of};
 ghost use Rattle.sheets.specs.Pairs.{task_of};
 
 use super::Sheet;
-use crate::field::number;
+use crate::field::Field;
 use crate::form::Column;
 use crate::line::field_at;
 use table::fault::Place;
-
-/// A field: a part of the text, and where it stands on the sheet.
-#[derive(Clone, Copy)]
-pub struct Field<'a> {
-    pub bytes: &'a [u8],
-    pub place: Place,
-}
-
-impl Field<'_> {
-    /// The number that the field writes.
-    pub fn number(&self) -> Option<u32>
-        ensures { MatchOption result ((n : _) → Writes self.now.bytes.now n → ⊥) (λ n. Writes self.now.bytes.now n) }
-    {
-        number(self.bytes)
-    }
-}
 
 // Where the column stands.
 fn place_of(columns: &[Column], column: Column) -> Option<usize>

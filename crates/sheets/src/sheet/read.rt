@@ -79,15 +79,17 @@ fn read_text<'a>(form: Form, text: &'a [u8]) -> Result<Sheet<'a>, Fault>
     }
 }
 
-/// Reads a text as a sheet of the form.
-pub fn read<'a>(form: Form, text: &'a [u8]) -> Result<Sheet<'a>, Fault>
-    ensures read { Reads form text.now result }
-    // What is a sheet is read, so a fault is given for what is none.
-    ensures whole { (lines : List (List (List ℕ))) (order : _) → IsSheet form text.now lines order → IsOk result }
-    // A text is of no other lines.
-    ensures one { (lines others : List (List (List ℕ))) → IsText text.now lines → IsText text.now others → lines ≡ others }
-    // It has no other first fault.
-    ensures first { (f g : Fault) → IsFirst form text.now f → IsFirst form text.now g → f ≡ g }
-{
-    read_text(form, text)
+impl<'a> Sheet<'a> {
+    /// Reads a text as a sheet of the form.
+    pub fn read(form: Form, text: &'a [u8]) -> Result<Sheet<'a>, Fault>
+        ensures read { Reads form text.now result }
+        // What is a sheet is read, so a fault is given only for what is none.
+        ensures whole { (lines : List (List (List ℕ))) (order : _) → IsSheet form text.now lines order → IsOk result }
+        // A text is of no other lines.
+        ensures one { (lines others : List (List (List ℕ))) → IsText text.now lines → IsText text.now others → lines ≡ others }
+        // It has no other first fault.
+        ensures first { (f g : Fault) → IsFirst form text.now f → IsFirst form text.now g → f ≡ g }
+    {
+        read_text(form, text)
+    }
 }

@@ -2,7 +2,7 @@ use Rattle.std.proofs.Common.{◌≡◌, ◌+◌, ◌<◌, ◌≤◌, length, sl
 use Rattle.std.proofs.lemmas.List.{length-set}
 use Rattle.table.specs.declared.fault.Fault.TheVariants.{BadAnswer}
 use Rattle.table.specs.Places.{nth}
-use Rattle.sheets.specs.Pairs.{Answers, IsRowOf, count_of}
+use Rattle.sheets.specs.Pairs.{Answers, HasTaskAt, count_of, task_of}
 use Rattle.sheets.proofs.Paired.{each_more, first_line, some_line, no_line, set_here, set_there, all_zero}
 use Rattle.sheets.proofs.pair.rows_named.Goals as goal
 
@@ -18,7 +18,7 @@ pub returns-in_default : goal.returns-in_default
 returns-in_default c = (
   c.loop-i.i + 1,
   ap BadAnswer c.name-name.ensures.place,
-  first_line (Answers c.args.tasks.now c.args.answer.now) c.loop-i.i c.loop-i.invariant.each (count_of c.args.answer.now) (omega (arith, c.len-i-end.ensures.count)) (λ h. c.in_default.ensures h.0.0 h.0.1 (omega (arith, h.0.2, c.len.ensures.count)) (h.0.3 ∙ sym c.name-name.ensures.name)),
+  first_line (Answers c.args.tasks.now c.args.answer.now) c.loop-i.i c.loop-i.invariant.each (count_of c.args.answer.now) (omega (arith, c.len-i-end.ensures.count)) (λ h. c.in_default.ensures h.0.0 h.0.1.0 (omega (arith, h.0.1.1, c.len.ensures.count)) (h.0.1.2 ∙ sym c.name-name.ensures.name)),
 )
 
 pub returns-then-is_some : goal.returns-then-is_some
@@ -41,11 +41,11 @@ loop-i-preserved c =
     let high : row ≤ count_of tasks = omega (arith, told.1, c.len.ensures.count) in
     let same = told.2 ∙ c.name-name.ensures.name in
     record {
-      each = each_more (Answers tasks answer) i c.loop-i.invariant.each ((row, told.0, high, same), λ k low less e. none k low (omega arith) (e ∙ sym c.name-name.ensures.name));
+      each = each_more (Answers tasks answer) i c.loop-i.invariant.each ((row, (told.0, high, same)), λ k low less e. none k low (omega arith) (e ∙ sym c.name-name.ensures.name));
       size = length-set c.loop-i.rows i row ∙ c.loop-i.invariant.size;
-      named = each_more (λ k. IsRowOf tasks answer k (nth (slice_set c.loop-i.rows i row) k 0)) i
-          (λ k low less. subst (IsRowOf tasks answer k) (sym (set_there c.loop-i.rows i row k low (λ e. omega arith))) (c.loop-i.invariant.named k low less))
-          (subst (IsRowOf tasks answer (i + 1)) (sym (set_here c.loop-i.rows i row inside)) (told.0, high, same));
+      named = each_more (λ k. HasTaskAt tasks (task_of answer k) (nth (slice_set c.loop-i.rows i row) k 0)) i
+          (λ k low less. subst (HasTaskAt tasks (task_of answer k)) (sym (set_there c.loop-i.rows i row k low (λ e. omega arith))) (c.loop-i.invariant.named k low less))
+          (subst (HasTaskAt tasks (task_of answer (i + 1))) (sym (set_here c.loop-i.rows i row inside)) (told.0, high, same));
       rest = λ k more. set_there c.loop-i.rows i row k (omega arith) (λ e. omega arith) ∙ c.loop-i.invariant.rest k (omega arith);
     }
 

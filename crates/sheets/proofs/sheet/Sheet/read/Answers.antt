@@ -1,7 +1,7 @@
 use Rattle.sheets.proofs.Cuts.{one_text}
 use Rattle.sheets.proofs.Outcomes.{one_first}
 use Rattle.sheets.proofs.Readings.{sheet_is_read}
-use Rattle.sheets.proofs.sheet.read.read.Goals as goal
+use Rattle.sheets.proofs.sheet.Sheet.read.Goals as goal
 
 pub returns-clause-whole : goal.returns-clause-whole
 returns-clause-whole c = sheet_is_read c.args.form c.args.text.now c.read_text.result c.read_text.ensures
