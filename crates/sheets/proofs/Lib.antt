@@ -7,4 +7,5 @@ pub mod Outcomes
 pub mod Paired
 pub mod Parts
 pub mod Readings
+pub mod Standing
 pub mod Values

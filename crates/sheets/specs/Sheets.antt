@@ -1,5 +1,5 @@
 -- What a sheet that was read has, and what it is to read one.
-use Rattle.std.specs.Prelude.{◌≡◌, ℕ, ◌+◌, ◌<◌, ◌≤◌, List, [], map, length, take, drop, Result, MatchResult}
+use Rattle.std.specs.Prelude.{◌≡◌, ℕ, ◌+◌, ◌<◌, ◌≤◌, List, [], map, length, take, drop, Contains, Result, MatchResult}
 use Rattle.table.specs.declared.fault.Fault.{Fault}
 use Rattle.sheets.specs.declared.form.Column.{Column}
 use Rattle.sheets.specs.declared.form.Form.{Form}
@@ -7,9 +7,9 @@ use Rattle.sheets.specs.declared.sheet.Sheet.{Sheet}
 use Rattle.std.specs.List.{position_or_len}
 use Rattle.std.specs.Str.{bytes_eq}
 use Rattle.table.specs.Places.{nth}
-use Rattle.sheets.specs.Forms.{name_of, columns_of}
+use Rattle.sheets.specs.Forms.{name_of, kind_of, columns_of}
 use Rattle.sheets.specs.Texts.{parts}
-use Rattle.sheets.specs.Reading.{IsSheet, IsFirst}
+use Rattle.sheets.specs.Reading.{IsOfKind, IsSheet, IsFirst}
 
 -- the columns of a sheet, from left to right
 abbrev pub order_of : Sheet → List Column
@@ -34,6 +34,10 @@ HasField s k c = (1 ≤ k) × (k ≤ length (values_of s)) × (left_of s c < len
 -- the field under a column in the k-th value line; no byte where there is none
 abbrev pub field_of : Sheet → ℕ → Column → List ℕ
 field_of s k c = nth (nth (values_of s) k []) (left_of s c + 1) []
+
+-- each value line has a field under each of the form's columns, and the field has the form of its kind
+abbrev pub IsFull : Sheet → Type 0
+IsFull s = (k : ℕ) (c : Column) → 1 ≤ k → k ≤ length (values_of s) → Contains (columns_of s.form) c → HasField s k c × IsOfKind (kind_of c) (field_of s k c)
 
 -- the sheet has this form, its columns in this order, and all of these lines but line 1 as its value lines
 abbrev pub Shows : Form → List (List (List ℕ)) → List Column → Sheet → Type 0

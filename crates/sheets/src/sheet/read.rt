@@ -1,12 +1,12 @@
 // Reading a text.
-ghost use Rattle.std.specs.Prelude.{◌≡◌, ◌≤◌, ◌<◌, [], ◌∷◌, ◌++◌, length, take, List, ℕ, IsOk, MatchOption, MatchResult};
+ghost use Rattle.std.specs.Prelude.{◌≡◌, ◌≤◌, ◌<◌, [], ◌∷◌, ◌++◌, length, take, List, ℕ, IsOk, IfOk, MatchOption, MatchResult};
 ghost use Rattle.table.specs.declared.fault.Fault.{Fault};
 ghost use Rattle.sheets.specs.Forms.{columns_of};
 ghost use Rattle.sheets.specs.Readers.{left};
 ghost use Rattle.sheets.specs.Reading.{Allowed, IsSized, IsFirst, IsSheet};
 ghost use Rattle.sheets.specs.Lines.{FirstFit, LinesMiss};
 ghost use Rattle.sheets.specs.Texts.{IsText};
-ghost use Rattle.sheets.specs.Sheets.{lines_of, Reads};
+ghost use Rattle.sheets.specs.Sheets.{lines_of, IsFull, Reads};
 
 use super::Sheet;
 use crate::form::{Column, Form, ROOM};
@@ -83,6 +83,7 @@ impl<'a> Sheet<'a> {
     /// Reads a text as a sheet of the form.
     pub fn read(form: Form, text: &'a [u8]) -> Result<Sheet<'a>, Fault>
         ensures read { Reads form text.now result }
+        ensures full { IfOk result IsFull }
         // What is a sheet is read, so a fault is given only for what is none.
         ensures whole { (lines : List (List (List ℕ))) (order : _) → IsSheet form text.now lines order → IsOk result }
         // A text is of no other lines.
