@@ -23,14 +23,12 @@ fn read_values<'a>(
     form: Form,
     order: [Column; ROOM],
     mut lines: Reader<'a>,
-    filler: &'a [u8],
 ) -> Result<Sheet<'a>, Fault>
-    requires second { lines.number ≡ 1 }
-    requires short { length filler.now ≤ 4096 }
+    requires { lines.number ≡ 1 }
     ensures { MatchResult result (λ s. (s.form ≡ form) × (s.order ≡ order) × (lines_of s ≡ left lines.entry) × FirstFit (take (length (columns_of form)) order) (left lines.entry) (length (left lines.entry)) × Allowed form (length (left lines.entry))) (λ fault. LinesMiss form (take (length (columns_of form)) order) (left lines.entry) fault) }
 {
     let columns = &order[..form.columns().len()];
-    let mut kept = [filler; 32];
+    let mut kept: [&'a [u8]; 32] = [&[]; 32];
     let mut len = 0;
     while let Some(line) = lines.next() {
         ask_line(form, columns, line)?;
@@ -74,7 +72,7 @@ fn read_text<'a>(form: Form, text: &'a [u8]) -> Result<Sheet<'a>, Fault>
     };
     let mut lines = Reader::new(body, b'\n');
     match next_order(form, &mut lines) {
-        Some(order) => read_values(form, order, lines, body),
+        Some(order) => read_values(form, order, lines),
         None => Err(Fault::BadNames(form.place(1, 0))),
     }
 }

@@ -21,11 +21,11 @@ pub loop-line-init : goal.loop-line-init
 loop-line-init c = record {
   rest = refl;
   within = omega arith;
-  counted = c.requires.second;
+  counted = c.requires;
   fit = λ i l. absurd (omega arith);
   long = refl;
   kept = λ _. refl;
-  short = All-replicate Short 32 c.args.filler c.requires.short;
+  short = All-replicate Short 32 _ (omega arith);
 }
 
 pub returns-in_err-ask_line : goal.returns-in_err-ask_line
