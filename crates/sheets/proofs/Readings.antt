@@ -10,7 +10,7 @@ use Rattle.sheets.specs.Forms.{columns_of, place}
 use Rattle.sheets.specs.Texts.{IsText, parts}
 use Rattle.sheets.specs.Reading.{IsSized, Heads, HasNames, Allowed, IsFirst, IsSheet}
 use Rattle.sheets.specs.Lines.{FirstFit, LinesMiss}
-use Rattle.sheets.specs.Sheets.{lines_of, Reads}
+use Rattle.sheets.specs.Sheets.{lines_of, ReadsText}
 use Rattle.sheets.proofs.Cuts.{ended, some_part, cut_is_text}
 use Rattle.sheets.proofs.Firsts.{seen, names_first, lines_first, sheet_from, sheet_misses_none}
 
@@ -26,7 +26,7 @@ module _ (form : Form) (text : List ℕ) (body : List ℕ) (sized : IsSized text
     go (first ∷ ls) e some = names_first form text first ls sized (is_text first ls e) (bad first ls e)
 
   -- the value lines are read
-  pub values_read : (first : List ℕ) (ls : List (List ℕ)) → parts 10 body ≡ first ∷ ls → (order : List Column) → Heads form (parts 32 first) (take (length (columns_of form)) order) → (r : Result Sheet Fault) → MatchResult r (λ s. (s.form ≡ form) × (s.order ≡ order) × (lines_of s ≡ ls) × FirstFit (take (length (columns_of form)) order) ls (length ls) × Allowed form (length ls)) (λ fault. LinesMiss form (take (length (columns_of form)) order) ls fault) → Reads form text r
+  pub values_read : (first : List ℕ) (ls : List (List ℕ)) → parts 10 body ≡ first ∷ ls → (order : List Column) → Heads form (parts 32 first) (take (length (columns_of form)) order) → (r : Result Sheet Fault) → MatchResult r (λ s. (s.form ≡ form) × (s.order ≡ order) × (lines_of s ≡ ls) × FirstFit (take (length (columns_of form)) order) ls (length ls) × Allowed form (length ls)) (λ fault. LinesMiss form (take (length (columns_of form)) order) ls fault) → ReadsText form text r
   values_read first ls e order heads (Ok s) h = (
     seen form first ls,
     take (length (columns_of form)) order,
@@ -36,6 +36,6 @@ module _ (form : Form) (text : List ℕ) (body : List ℕ) (sized : IsSized text
   values_read first ls e order heads (Err fault) h = lines_first form text first ls sized (is_text first ls e) (take (length (columns_of form)) order) heads fault h
 
 -- what is a sheet is read
-pub sheet_is_read : (form : Form) (text : List ℕ) (r : Result Sheet Fault) → Reads form text r → (lines : List (List (List ℕ))) (order : List Column) → IsSheet form text lines order → IsOk r
+pub sheet_is_read : (form : Form) (text : List ℕ) (r : Result Sheet Fault) → ReadsText form text r → (lines : List (List (List ℕ))) (order : List Column) → IsSheet form text lines order → IsOk r
 sheet_is_read form text (Ok s) h lines order sheet = refl
 sheet_is_read form text (Err fault) h lines order sheet = absurd (sheet_misses_none form text lines order sheet fault h.0)

@@ -15,7 +15,7 @@ use Rattle.sheets.specs.declared.form.Form.{Form}
 use Rattle.sheets.specs.declared.sheet.Sheet.{Sheet}
 use Rattle.sheets.specs.Forms.{name_of, kind_of, columns_of}
 use Rattle.sheets.specs.Reading.{IsOfKind, IsValueLine, IsSheet, field}
-use Rattle.sheets.specs.Sheets.{values_of, left_of, Shows, IsFull, Reads}
+use Rattle.sheets.specs.Sheets.{values_of, left_of, Shows, IsFull, ReadsText}
 use Rattle.sheets.proofs.Columns.{one_column}
 use Rattle.sheets.proofs.Parts.{get_or-map}
 
@@ -64,6 +64,6 @@ module _ (form : Form) (text : List ℕ) (lines : List (List (List ℕ))) (order
       )
 
 -- what was read is full
-pub read_is_full : (form : Form) (text : List ℕ) (r : Result Sheet Fault) → Reads form text r → IfOk r IsFull
+pub read_is_full : (form : Form) (text : List ℕ) (r : Result Sheet Fault) → ReadsText form text r → IfOk r IsFull
 read_is_full form text (Ok s) h = full form text h.0 h.1 h.2 s h.3
 read_is_full form text (Err fault) h = tt

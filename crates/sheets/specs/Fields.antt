@@ -1,5 +1,5 @@
 -- What a field may be: a name, or the number that it writes.
-use Rattle.std.specs.Prelude.{◌≡◌, ℕ, ◌+◌, ◌-◌, ◌*◌, ◌^◌, ◌≤◌, ◌⊎◌, List, [], ◌∷◌, length, All, slice_index}
+use Rattle.std.specs.Prelude.{◌≡◌, ℕ, ◌+◌, ◌-◌, ◌*◌, ◌^◌, ◌≤◌, ◌⊎◌, Option, MatchOption, List, [], ◌∷◌, length, All, slice_index}
 
 -- a digit 0 to 9
 abbrev pub IsDigit : ℕ → Type 0
@@ -25,3 +25,7 @@ pub record Writes (field : List ℕ) (n : ℕ) : Type 0 where
   pub plain : slice_index field 0 ≡ 48 → length field ≡ 1
   pub number : value field ≡ n
   pub small : n ≤ 1000000
+
+-- reading a number: the one that the field writes, or none if it writes none
+abbrev pub ReadsNumber : List ℕ → Option ℕ → Type 0
+ReadsNumber field r = MatchOption r ((n : ℕ) → Writes field n → ⊥) (Writes field)

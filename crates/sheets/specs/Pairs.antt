@@ -57,7 +57,7 @@ PairMisses tasks answer (NoAnswer p) = EachLine (IsNew tasks) (count_of tasks) �
 PairMisses tasks answer fault = ⊥
 
 -- a list has in its k-th place the row that the k-th value line of the answer names; 0 past the last one
-pub record Rows (tasks answer : Sheet) (rows : List ℕ) : Type 0 where
+pub record RowsNamed (tasks answer : Sheet) (rows : List ℕ) : Type 0 where
   pub size : length rows ≡ 32
   pub named : EachLine (λ k. HasTaskAt tasks (task_of answer k) (nth rows k 0)) (count_of answer)
   pub rest : (k : ℕ) → count_of answer < k → nth rows k 0 ≡ 0
@@ -66,5 +66,5 @@ pub record Rows (tasks answer : Sheet) (rows : List ℕ) : Type 0 where
 abbrev pub Pairs : Sheet → Sheet → Result (List ℕ) Fault → Type 0
 Pairs tasks answer r =
     MatchResult r
-    (λ rows. EachLine (IsNew tasks) (count_of tasks) × EachLine (Answers tasks answer) (count_of answer) × EachLine (IsAnswered tasks answer) (count_of tasks) × Rows tasks answer rows)
+    (λ rows. EachLine (IsNew tasks) (count_of tasks) × EachLine (Answers tasks answer) (count_of answer) × EachLine (IsAnswered tasks answer) (count_of tasks) × RowsNamed tasks answer rows)
     (PairMisses tasks answer)

@@ -44,7 +44,7 @@ abbrev pub Shows : Form → List (List (List ℕ)) → List Column → Sheet →
 Shows form lines order s = (s.form ≡ form) × (order_of s ≡ order) × (values_of s ≡ drop 1 lines)
 
 -- reading a text: the sheet that it is, or the first fault
-abbrev pub Reads : Form → List ℕ → Result Sheet Fault → Type 0
-Reads form text r =
+abbrev pub ReadsText : Form → List ℕ → Result Sheet Fault → Type 0
+ReadsText form text r =
     MatchResult r (λ s. (lines : List (List (List ℕ))) × (order : List Column) × IsSheet form text lines order × Shows form lines order s)
     (λ fault. IsFirst form text fault)

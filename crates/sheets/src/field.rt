@@ -1,6 +1,6 @@
 // What a field is: a part of the text that is a name, or writes a number.
 ghost use Rattle.std.specs.Prelude.{◌≡◌, ◌≤◌, ◌↔◌, IsTrue, MatchOption, All};
-ghost use Rattle.sheets.specs.Fields.{IsName, IsNameByte, IsDigit, value, Writes};
+ghost use Rattle.sheets.specs.Fields.{IsName, IsNameByte, IsDigit, value, ReadsNumber};
 
 use table::fault::Place;
 
@@ -39,7 +39,7 @@ fn digits_value(digits: &[u8]) -> Option<u32>
 
 /// The number that the field writes: a lone zero, or digits of which the first is not zero.
 pub(crate) fn number(field: &[u8]) -> Option<u32>
-    ensures { MatchOption result ((n : _) → Writes field.now n → ⊥) (λ n. Writes field.now n) }
+    ensures { ReadsNumber field.now result }
 {
     match field {
         [b'0'] => Some(0),
@@ -58,7 +58,7 @@ pub struct Field<'a> {
 impl Field<'_> {
     /// The number that the field writes.
     pub fn number(&self) -> Option<u32>
-        ensures { MatchOption result ((n : _) → Writes self.now.bytes.now n → ⊥) (λ n. Writes self.now.bytes.now n) }
+        ensures { ReadsNumber self.now.bytes.now result }
     {
         number(self.bytes)
     }

@@ -1,7 +1,7 @@
 // The pairing of a tasks sheet and an answer sheet.
 ghost use Rattle.std.specs.Prelude.{◌≡◌, ◌+◌, MatchResult};
 ghost use Rattle.sheets.specs.Forms.{place};
-ghost use Rattle.sheets.specs.Pairs.{count_of, name_place, IsNew, Answers, IsAnswered, EachLine, FirstLine, Rows, Pairs};
+ghost use Rattle.sheets.specs.Pairs.{count_of, name_place, IsNew, Answers, IsAnswered, EachLine, FirstLine, RowsNamed, Pairs};
 
 use crate::sheet::Sheet;
 use table::fault::Fault;
@@ -12,7 +12,7 @@ fn ask_names(tasks: &Sheet<'_>) -> Result<(), Fault>
 {
     for i in 0..tasks.len() {
         let name = tasks.name(i + 1);
-        if tasks.line_of(name.bytes, i).is_some() {
+        if tasks.line_named(name.bytes, i).is_some() {
             return Err(Fault::RepeatedTask(name.place));
         }
     }
@@ -21,15 +21,15 @@ fn ask_names(tasks: &Sheet<'_>) -> Result<(), Fault>
 
 // The rows that the answer names, line by line.
 fn rows_named(tasks: &Sheet<'_>, answer: &Sheet<'_>) -> Result<[usize; 32], Fault>
-    ensures { MatchResult result (λ rows. EachLine (Answers tasks.now answer.now) (count_of answer.now) × Rows tasks.now answer.now rows) (λ fault. (k : _) × (fault ≡ Fault.BadAnswer (name_place answer.now k)) × FirstLine (Answers tasks.now answer.now) (count_of answer.now) k) }
+    ensures { MatchResult result (λ rows. EachLine (Answers tasks.now answer.now) (count_of answer.now) × RowsNamed tasks.now answer.now rows) (λ fault. (k : _) × (fault ≡ Fault.BadAnswer (name_place answer.now k)) × FirstLine (Answers tasks.now answer.now) (count_of answer.now) k) }
 {
     let mut rows = [0; 32];
     for i in 0..answer.len() {
         let name = answer.name(i + 1);
-        let Some(row) = tasks.line_of(name.bytes, tasks.len()) else {
+        let Some(row) = tasks.line_named(name.bytes, tasks.len()) else {
             return Err(Fault::BadAnswer(name.place));
         };
-        if answer.line_of(name.bytes, i).is_some() {
+        if answer.line_named(name.bytes, i).is_some() {
             return Err(Fault::BadAnswer(name.place));
         }
         rows[i] = row;
@@ -43,7 +43,7 @@ fn ask_answered(tasks: &Sheet<'_>, answer: &Sheet<'_>) -> Result<(), Fault>
 {
     for i in 0..tasks.len() {
         if answer
-            .line_of(tasks.name(i + 1).bytes, answer.len())
+            .line_named(tasks.name(i + 1).bytes, answer.len())
             .is_none()
         {
             return Err(Fault::NoAnswer(tasks.line_place(i + 1)));

@@ -1,7 +1,7 @@
 // A reader that hands out the parts of a lent text between two bytes of a kind.
 ghost use Rattle.std.specs.Prelude.{◌+◌, ◌≤◌, length};
 
-pub mod next;
+mod next;
 
 /// A part of the text, with its number from 1.
 #[derive(Clone, Copy)]

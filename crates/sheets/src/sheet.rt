@@ -1,11 +1,12 @@
-// A sheet that was read: it holds its lines, as parts of the text, and the columns that line 1 names.
+// A sheet: it holds its lines, as parts of the text, and the columns that line 1 names.
 ghost use Rattle.std.specs.Prelude.{◌≤◌, length, All};
 
-pub mod fields;
-pub mod read;
+mod fields;
+mod read;
 
 use crate::form::{Column, Form, ROOM};
 
+/// A sheet that was read.
 #[derive(Drop)]
 pub struct Sheet<'a> {
     form: Form,

@@ -12,7 +12,7 @@ use crate::line::field_at;
 use table::fault::Place;
 
 // Where the column stands.
-fn place_of(columns: &[Column], column: Column) -> Option<usize>
+fn position_of(columns: &[Column], column: Column) -> Option<usize>
     ensures { result ≡ position (λ c. bytes_eq (name_of c) (name_of column)) columns.now }
 {
     columns.iter().position(|c| c.is(column))
@@ -40,7 +40,7 @@ impl<'a> Sheet<'a> {
         ensures few { result ≤ 8 }
     {
         let columns = self.columns();
-        place_of(columns, column).unwrap_or(columns.len())
+        position_of(columns, column).unwrap_or(columns.len())
     }
 
     // The k-th value line.
@@ -85,7 +85,7 @@ impl<'a> Sheet<'a> {
     }
 
     // The first of the first `count` value lines with this name.
-    pub(crate) fn line_of(&self, name: &[u8], count: usize) -> Option<usize>
+    pub(crate) fn line_named(&self, name: &[u8], count: usize) -> Option<usize>
         requires { count ≤ 32 }
         ensures { MatchOption result ((k : _) → 1 ≤ k → k ≤ count → task_of self.now k ≡ name.now → ⊥) (λ k. (1 ≤ k) × (k ≤ count) × (task_of self.now k ≡ name.now)) }
     {

@@ -6,7 +6,7 @@ ghost use Rattle.sheets.specs.Readers.{left};
 ghost use Rattle.sheets.specs.Reading.{Allowed, IsSized, IsFirst, IsSheet};
 ghost use Rattle.sheets.specs.Lines.{FirstFit, LinesMiss};
 ghost use Rattle.sheets.specs.Texts.{IsText};
-ghost use Rattle.sheets.specs.Sheets.{lines_of, IsFull, Reads};
+ghost use Rattle.sheets.specs.Sheets.{lines_of, IsFull, ReadsText};
 
 use super::Sheet;
 use crate::form::{Column, Form, ROOM};
@@ -65,7 +65,7 @@ fn body_of(text: &[u8]) -> Option<&[u8]>
 
 // Asks the questions of a text, the first one first.
 fn read_text<'a>(form: Form, text: &'a [u8]) -> Result<Sheet<'a>, Fault>
-    ensures { Reads form text.now result }
+    ensures { ReadsText form text.now result }
 {
     let Some(body) = body_of(text) else {
         return Err(Fault::BadText(form.place(0, 0)));
@@ -78,9 +78,9 @@ fn read_text<'a>(form: Form, text: &'a [u8]) -> Result<Sheet<'a>, Fault>
 }
 
 impl<'a> Sheet<'a> {
-    /// Reads a text as a sheet of the form.
+    /// ReadsText a text as a sheet of the form.
     pub fn read(form: Form, text: &'a [u8]) -> Result<Sheet<'a>, Fault>
-        ensures read { Reads form text.now result }
+        ensures read { ReadsText form text.now result }
         ensures full { IfOk result IsFull }
         // What is a sheet is read, so a fault is given only for what is none.
         ensures whole { (lines : List (List (List ℕ))) (order : _) → IsSheet form text.now lines order → IsOk result }

@@ -23,7 +23,7 @@ returns-in_default c = (
 
 pub returns-then-is_some : goal.returns-then-is_some
 returns-then-is_some c =
-    let line = some_line _ _ c.line_of-in-loop-i.result (sym c.if-is_some.ensures) c.line_of-in-loop-i.ensures in (
+    let line = some_line _ _ c.line_named-in-loop-i.result (sym c.if-is_some.ensures) c.line_named-in-loop-i.ensures in (
       c.loop-i.i + 1,
       ap BadAnswer c.name-name.ensures.place,
       first_line (Answers c.args.tasks.now c.args.answer.now) c.loop-i.i c.loop-i.invariant.each (count_of c.args.answer.now) (omega (arith, c.len-i-end.ensures.count)) (λ h. h.1 line.0 line.1.0 (omega (arith, line.1.1)) (line.1.2 ∙ c.name-name.ensures.name)),
@@ -37,7 +37,7 @@ loop-i-preserved c =
     let row = c.in-Some.row in
     let told = c.in-Some.ensures in
     let inside : i < length c.loop-i.rows = omega (arith, c.loop-i.invariant.size, c.len-i-end.ensures.few) in
-    let none = no_line _ _ c.line_of-in-loop-i.result (sym c.if-is_some.ensures) c.line_of-in-loop-i.ensures in
+    let none = no_line _ _ c.line_named-in-loop-i.result (sym c.if-is_some.ensures) c.line_named-in-loop-i.ensures in
     let high : row ≤ count_of tasks = omega (arith, told.1, c.len.ensures.count) in
     let same = told.2 ∙ c.name-name.ensures.name in
     record {

@@ -14,7 +14,7 @@ pub returns : goal.returns
 returns c =
     let test = λ (d : Column). bytes_eq (name_of d) (name_of c.args.column) in
     let value : c.unwrap_or.result ≡ position_or_len test (order_of c.args.self.now) =
-    c.unwrap_or.ensures ∙ ap (λ o. unwrap_or o (length c.columns-columns.result.now)) c.place_of.ensures ∙ unwrap_or-position test c.columns-columns.result.now ∙ ap (position_or_len test) c.columns-columns.ensures in
+    c.unwrap_or.ensures ∙ ap (λ o. unwrap_or o (length c.columns-columns.result.now)) c.position_of.ensures ∙ unwrap_or-position test c.columns-columns.result.now ∙ ap (position_or_len test) c.columns-columns.ensures in
     record {
       value = value;
       few = omega (arith, value, prefix_len-le-length (λ d. not (test d)) (order_of c.args.self.now), length-take (length (columns_of c.args.self.now.form)) c.args.self.now.order, few_columns c.args.self.now.form);
