@@ -78,7 +78,7 @@ fn read_text<'a>(form: Form, text: &'a [u8]) -> Result<Sheet<'a>, Fault>
 }
 
 impl<'a> Sheet<'a> {
-    /// ReadsText a text as a sheet of the form.
+    /// Reads a text as a sheet of the form.
     pub fn read(form: Form, text: &'a [u8]) -> Result<Sheet<'a>, Fault>
         ensures read { ReadsText form text.now result }
         ensures full { IfOk result IsFull }
