@@ -3,6 +3,7 @@ pub mod Cuts
 pub mod Firsts
 pub mod Held
 pub mod Lined
+pub mod Ordered
 pub mod Outcomes
 pub mod Paired
 pub mod Parts

@@ -68,3 +68,9 @@ Pairs tasks answer r =
     MatchResult r
     (λ rows. EachLine (IsNew tasks) (count_of tasks) × EachLine (Answers tasks answer) (count_of answer) × EachLine (IsAnswered tasks answer) (count_of tasks) × RowsNamed tasks answer rows)
     (PairMisses tasks answer)
+
+-- the rows that the answer names are all rows of the tasks sheet, each once: they are as many, and no two are the same
+abbrev pub EachRowOnce : Sheet → Sheet → List ℕ → Type 0
+EachRowOnce tasks answer rows =
+    (count_of answer ≡ count_of tasks)
+    × ((k l : ℕ) → 1 ≤ k → k ≤ count_of answer → 1 ≤ l → l ≤ count_of answer → nth rows k 0 ≡ nth rows l 0 → k ≡ l)

@@ -1,7 +1,7 @@
 // The pairing of a tasks sheet and an answer sheet.
-ghost use Rattle.std.specs.Prelude.{◌≡◌, ◌+◌, MatchResult};
+ghost use Rattle.std.specs.Prelude.{◌≡◌, ◌+◌, IfOk, MatchResult};
 ghost use Rattle.sheets.specs.Forms.{place};
-ghost use Rattle.sheets.specs.Pairs.{count_of, name_place, IsNew, Answers, IsAnswered, EachLine, FirstLine, RowsNamed, Pairs};
+ghost use Rattle.sheets.specs.Pairs.{count_of, name_place, IsNew, Answers, IsAnswered, EachLine, FirstLine, RowsNamed, EachRowOnce, Pairs};
 
 use crate::sheet::Sheet;
 use table::fault::Fault;
@@ -52,12 +52,21 @@ fn ask_answered(tasks: &Sheet<'_>, answer: &Sheet<'_>) -> Result<(), Fault>
     Ok(())
 }
 
-/// The rows that the value lines of the answer name, with 0 past the last.
-pub fn pair(tasks: &Sheet<'_>, answer: &Sheet<'_>) -> Result<[usize; 32], Fault>
+// Asks the questions of a pair, the first one first.
+fn rows_of(tasks: &Sheet<'_>, answer: &Sheet<'_>) -> Result<[usize; 32], Fault>
     ensures { Pairs tasks.now answer.now result }
 {
     ask_names(tasks)?;
     let rows = rows_named(tasks, answer)?;
     ask_answered(tasks, answer)?;
     Ok(rows)
+}
+
+/// The rows that the value lines of the answer name, with 0 past the last.
+pub fn pair(tasks: &Sheet<'_>, answer: &Sheet<'_>) -> Result<[usize; 32], Fault>
+    ensures pair { Pairs tasks.now answer.now result }
+    // So they are an order of the rows.
+    ensures order { IfOk result (λ rows. EachRowOnce tasks.now answer.now rows) }
+{
+    rows_of(tasks, answer)
 }
