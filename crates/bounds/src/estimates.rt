@@ -19,8 +19,8 @@ fn wcet_at(rows: &[Row], place: usize) -> u32
     rows.get(place).map_or(0, |row| row.wcet())
 }
 
-// Each row's wcet in its place, and 0 past the last row.
-pub(crate) fn wcets_of(rows: &[Row]) -> [u32; 32]
+/// Each row's wcet in its place, and 0 past the last row.
+pub fn wcets_of(rows: &[Row]) -> [u32; 32]
     ensures { result ≡ wcets rows.now }
 {
     array::from_fn(|place| wcet_at(rows, place))

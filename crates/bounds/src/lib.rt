@@ -4,7 +4,7 @@ pub mod analyse;
 pub mod check;
 mod climb;
 pub mod da;
-mod estimates;
+pub mod estimates;
 pub mod lc;
 mod load;
 pub mod miss;

@@ -7,12 +7,13 @@ use Rattle.table.specs.Places.{nth, put}
 use Rattle.table.specs.Rows.{row, Names}
 use Rattle.table.proofs.Placed.{nth_replicate, nth_put_same, nth_put_other, length_put}
 use Rattle.bounds.specs.Questions.{In, NoMore, Laws}
-use Rattle.bounds.specs.Orders.{task_at, Order, first, padded, wcets, estimated, answer_at, Bounded, LateAt, HasLate, PassesBy}
+use Rattle.bounds.specs.Orders.{task_at, Order, first, padded, wcets, estimated, answer_at, Bounded, LateAt, Estimates, Holds, HasLate, PassesBy}
 use Rattle.bounds.specs.Compared.{no_more_join}
 use Rattle.bounds.proofs.Descents.{Reached, reached_none, reached_more, reached_late}
 use Rattle.bounds.proofs.Holding.{holds_not_late}
 use Rattle.bounds.proofs.Padded.{padded_at, padded_length}
 use Rattle.bounds.proofs.Wcets.{wcets_at}
+use Rattle.orders.specs.Ranges.{as_range, Passes}
 use Rattle.orders.specs.Relations.{OneOrOther, PassesOwn, HoldsBelow, Relations}
 use Rattle.orders.proofs.Narrows.{sound_at}
 use Rattle.orders.proofs.Sets.{first_in, every}
@@ -84,14 +85,20 @@ module _ (rows : List Row) (few : length rows ≤ 32) (order : List ℕ) (o : Or
     bound_within : (p : ℕ) → Bounded answer t rows order bounds p → (q : ℕ) → q < p → ((row rows (task_at order q)).wcet ≤ nth bounds (task_at order q) 0) × (nth bounds (task_at order q) 0 ≤ (row rows (task_at order q)).deadline)
     bound_within p bounded q l = let b = laws.bound t rows (task_at order q) (first order q) (estimated rows order bounds q) _ (bounded q l) in (b.1, b.2)
 
+    -- the same by row number
+    bounds_within : Bounded answer t rows order bounds (length order) → (k : ℕ) → Names rows k → ((row rows k).wcet ≤ nth bounds k 0) × (nth bounds k 0 ≤ (row rows k).deadline)
+    bounds_within bounded k names =
+        let at = placed k names in
+        let b = bound_within (length order) bounded at.0 (omega (arith, at.1, o.size)) in
+        subst (λ j. ((row rows j).wcet ≤ nth bounds j 0) × (nth bounds j 0 ≤ (row rows j).deadline)) at.2 b
+
     passes_own : length bounds ≡ length rows → Bounded answer t rows order bounds (length order) → PassesBy answer t rows (padded bounds) (padded bounds) order
     passes_own long bounded p l =
         let task = task_at order p in
         let inside : p < length rows = omega (arith, o.size) in
         let same : (k : ℕ) → Names rows k → nth (padded bounds) k 0 ≡ nth bounds k 0 = λ k names. padded_at bounds k names.0 (omega (arith, names.1)) in
         let within : (k : ℕ) → Names rows k → ((row rows k).wcet ≤ nth (padded bounds) k 0) × (nth (padded bounds) k 0 ≤ (row rows k).deadline) =
-        λ k names. let at = placed k names in let b = bound_within (length order) bounded at.0 (omega (arith, at.1, o.size)) in
-        subst (λ x. ((row rows k).wcet ≤ x) × (x ≤ (row rows k).deadline)) (sym (same k names)) (subst (λ j. ((row rows j).wcet ≤ nth bounds j 0) × (nth bounds j 0 ≤ (row rows j).deadline)) at.2 b) in
+        λ k names. subst (λ x. ((row rows k).wcet ≤ x) × (x ≤ (row rows k).deadline)) (sym (same k names)) (bounds_within bounded k names) in
         let sound = (laws.bound t rows task (first order p) (estimated rows order bounds p) _ (bounded p l)).0 in
         let agree : (k : ℕ) → In (first order p) k → nth (estimated rows order bounds p) k 0 ≡ nth (padded bounds) k 0 =
         λ k y. let was = first_in order p k y in
@@ -130,6 +137,17 @@ module _ (rows : List Row) (few : length rows ≤ 32) (order : List ℕ) (o : Or
 module _ {T : Type 0} {answer : T → List Row → ℕ → List Bool → List ℕ → Option ℕ} (laws : Laws answer) (t : T) (rows : List Row) (few : length rows ≤ 32) where
   own_bounds : PassesOwn answer t rows
   own_bounds order bounds o long bounded = passes_own rows few order o bounds laws t long bounded
+
+  -- the bounds of an order that holds are a list of estimates that it passes
+  pub own_estimates : (order : List ℕ) → Order (length rows) order → Holds answer t rows order → (es : List ℕ) × Estimates rows es × Passes answer t rows (as_range es) order
+  own_estimates order o holds =
+      elim (descend answer t rows order o (length rows) (omega arith)) [
+        | inl d ↦
+          let bounds = d.2 in
+          let bounded = subst (Bounded answer t rows order bounds) (sym o.size) d.3.bounded in
+          (bounds, record { size = d.3.long; within = bounds_within rows few order o bounds laws t bounded }, own_bounds order bounds o d.3.long bounded)
+        | inr late ↦ absurd (holds_not_late answer t rows order holds.0 late.0 late.1 holds.1 late.2)
+      ]
 
   holds_below : HoldsBelow answer t rows
   holds_below order es o est passes =

@@ -13,8 +13,8 @@ use std::array;
 use table::row::Row;
 use table::rows::Table;
 
-// Whether this is a range of the table.
-pub(crate) fn is_range(table: &Table<Row>, range: &Range) -> bool
+/// Whether this is a range of the table.
+pub fn is_range(table: &Table<Row>, range: &Range) -> bool
     ensures { result ≡ withinb (view table.now) range.now }
 {
     let ends = range.lows.iter().zip(&range.highs);

@@ -4,7 +4,7 @@ use Rattle.table.specs.declared.fault.Place.{Place}
 use Rattle.table.specs.declared.fault.Layer.{Layer}
 use Rattle.table.specs.declared.fault.Layer.TheVariants as layer
 use Rattle.table.specs.declared.fault.Fault.{Fault}
-use Rattle.table.specs.declared.fault.Fault.TheVariants.{BadText, BadNames, BadFieldCount, BadField, BadLineCount, RepeatedTask, BadAnswer, NoAnswer, Full, NoRow, BadRow, BadTest, Empty, BadOrder, BadLength}
+use Rattle.table.specs.declared.fault.Fault.TheVariants.{BadText, BadNames, BadFieldCount, BadField, BadLineCount, RepeatedTask, BadAnswer, NoAnswer, Full, NoRow, BadRow, BadTest, Empty, BadSlots, NotRunning, OtherLists, BadOrder, BadLength}
 
 -- no sheet
 abbrev pub nowhere : Place
@@ -25,6 +25,9 @@ number_of NoRow = 10
 number_of (BadRow p) = 11
 number_of (BadTest p) = 12
 number_of Empty = 13
+number_of BadSlots = 14
+number_of NotRunning = 15
+number_of OtherLists = 16
 number_of (BadOrder p) = 17
 number_of BadLength = 18
 
@@ -43,6 +46,9 @@ layer_of NoRow = layer.Table
 layer_of (BadRow p) = layer.Table
 layer_of (BadTest p) = layer.Board
 layer_of Empty = layer.Study
+layer_of BadSlots = layer.Study
+layer_of NotRunning = layer.Study
+layer_of OtherLists = layer.Study
 layer_of (BadOrder p) = layer.Study
 layer_of BadLength = layer.Study
 
@@ -61,6 +67,9 @@ place_of NoRow = nowhere
 place_of (BadRow p) = p
 place_of (BadTest p) = p
 place_of Empty = nowhere
+place_of BadSlots = nowhere
+place_of NotRunning = nowhere
+place_of OtherLists = nowhere
 place_of (BadOrder p) = p
 place_of BadLength = nowhere
 
@@ -79,5 +88,8 @@ words_of NoRow = codes "there is no such row"
 words_of (BadRow p) = codes "the numbers make no row"
 words_of (BadTest p) = codes "there is no such test"
 words_of Empty = codes "the table is empty"
+words_of BadSlots = codes "a list has not 1 to 4096 whole slots"
+words_of NotRunning = codes "no search is running"
+words_of OtherLists = codes "the lists are not as the search left them"
 words_of (BadOrder p) = codes "the order or its estimates are not right"
 words_of BadLength = codes "the list has another length than the table"

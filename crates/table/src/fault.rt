@@ -62,6 +62,12 @@ pub enum Fault {
     BadTest(Place),
     /// The table has no row at all.
     Empty,
+    /// A lent list has not 1 to 4,096 whole slots and nothing over.
+    BadSlots,
+    /// No search is running.
+    NotRunning,
+    /// The lists are not those that the search left, by their lengths or by the last pending range.
+    OtherLists,
     /// The order does not name each row once, or there is not one estimate for each row from its C to its D.
     BadOrder(Place),
     /// The list for the bounds has not exactly one place for each row.
@@ -87,6 +93,9 @@ impl Fault {
             Fault::BadRow(_) => 11,
             Fault::BadTest(_) => 12,
             Fault::Empty => 13,
+            Fault::BadSlots => 14,
+            Fault::NotRunning => 15,
+            Fault::OtherLists => 16,
             Fault::BadOrder(_) => 17,
             Fault::BadLength => 18,
         }
@@ -105,7 +114,12 @@ impl Fault {
             Fault::RepeatedTask(_) | Fault::BadAnswer(_) | Fault::NoAnswer(_) => Layer::Pair,
             Fault::Full | Fault::NoRow | Fault::BadRow(_) => Layer::Table,
             Fault::BadTest(_) => Layer::Board,
-            Fault::Empty | Fault::BadOrder(_) | Fault::BadLength => Layer::Study,
+            Fault::Empty
+            | Fault::BadSlots
+            | Fault::NotRunning
+            | Fault::OtherLists
+            | Fault::BadOrder(_)
+            | Fault::BadLength => Layer::Study,
         }
     }
 
@@ -125,7 +139,13 @@ impl Fault {
             | Fault::BadRow(place)
             | Fault::BadTest(place)
             | Fault::BadOrder(place) => place,
-            Fault::Full | Fault::NoRow | Fault::Empty | Fault::BadLength => Place::NOWHERE,
+            Fault::Full
+            | Fault::NoRow
+            | Fault::Empty
+            | Fault::BadSlots
+            | Fault::NotRunning
+            | Fault::OtherLists
+            | Fault::BadLength => Place::NOWHERE,
         }
     }
 }
@@ -149,6 +169,9 @@ impl fmt::Display for Fault {
             Fault::BadRow(_) => "the numbers make no row",
             Fault::BadTest(_) => "there is no such test",
             Fault::Empty => "the table is empty",
+            Fault::BadSlots => "a list has not 1 to 4096 whole slots",
+            Fault::NotRunning => "no search is running",
+            Fault::OtherLists => "the lists are not as the search left them",
             Fault::BadOrder(_) => "the order or its estimates are not right",
             Fault::BadLength => "the list has another length than the table",
         })

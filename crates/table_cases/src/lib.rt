@@ -154,6 +154,9 @@ mod tests {
         is_fault(&rt, Fault::BadRow(place), 11, Layer::Table, place);
         is_fault(&rt, Fault::BadTest(place), 12, Layer::Board, place);
         is_fault(&rt, Fault::Empty, 13, Layer::Study, Place::NOWHERE);
+        is_fault(&rt, Fault::BadSlots, 14, Layer::Study, Place::NOWHERE);
+        is_fault(&rt, Fault::NotRunning, 15, Layer::Study, Place::NOWHERE);
+        is_fault(&rt, Fault::OtherLists, 16, Layer::Study, Place::NOWHERE);
         is_fault(&rt, Fault::BadOrder(place), 17, Layer::Study, place);
         is_fault(&rt, Fault::BadLength, 18, Layer::Study, Place::NOWHERE);
     }

@@ -1,2 +1,6 @@
 mod Added
+mod Growths
+mod Searching
+mod Decisions
+mod Searched
 mod Shown

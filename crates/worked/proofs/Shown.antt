@@ -1,16 +1,12 @@
 -- The worked examples hold: each is computed.
-use Rattle.std.proofs.Common.{[], ◌∷◌, Some, None, refl, lit≤}
+use Rattle.std.proofs.Common.{refl}
 use Rattle.table.specs.Places.{nth, put}
 use Rattle.bounds.specs.Questions.{all_to}
 use Rattle.bounds.specs.Loads.{sum_to}
-use Rattle.bounds.specs.declared.rta.Rta.{Rta}
-use Rattle.bounds.specs.Responses.{least_from, greatest, rta}
-use Rattle.bounds.specs.ResponseLoads.{rta_laws}
-use Rattle.orders.specs.Assigner.{fill, full}
-use Rattle.orders.specs.Ranges.{Open, Closed}
-use Rattle.orders.proofs.Audsley.{decided}
-use Rattle.orders.proofs.Withins.{within_from}
-use Rattle.worked.specs.Examples.{tasks, on_two, ranged, Work, DeadlineAnalysis, ResponseAnalysis, LimitedAnalysis, Overheads, WorkedExamples}
+use Rattle.bounds.specs.Responses.{least_from, greatest}
+use Rattle.worked.proofs.Decisions.{c_closed, c_open}
+use Rattle.worked.proofs.Searched.{found_after_split, none_after_kept, found_at_once}
+use Rattle.worked.specs.Examples.{Work, DeadlineAnalysis, ResponseAnalysis, LimitedAnalysis, Overheads, WorkedExamples}
 
 work : Work
 work = (refl, refl, refl, refl)
@@ -31,13 +27,5 @@ overheads : Overheads
 unfolding nth put all_to sum_to least_from
 overheads = (refl, refl, refl, refl)
 
-closed : Closed (λ (t : Rta). rta t.processors.count) on_two tasks (ranged 4)
-unfolding nth put all_to sum_to least_from fill full
-closed = decided rta_laws on_two tasks (ranged 4) (lit≤ tt) (within_from tasks (ranged 4) refl) None refl
-
-opened : Open (λ (t : Rta). rta t.processors.count) on_two tasks (ranged 5)
-unfolding nth put all_to sum_to least_from fill full
-opened = (2 ∷ (1 ∷ (3 ∷ [])), decided rta_laws on_two tasks (ranged 5) (lit≤ tt) (within_from tasks (ranged 5) refl) (Some (2 ∷ (1 ∷ (3 ∷ [])))) refl)
-
 pub shown : WorkedExamples
-shown = (work, deadline_analysis, response_analysis, limited_analysis, overheads, (closed, opened))
+shown = (work, deadline_analysis, response_analysis, limited_analysis, overheads, (c_closed, c_open), found_after_split, none_after_kept, found_at_once)

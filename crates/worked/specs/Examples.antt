@@ -1,5 +1,5 @@
--- The worked examples: what the definitions give on a small table, m = 2.
-use Rattle.std.specs.Prelude.{◌≡◌, ℕ, Bool, true, false, List, [], ◌∷◌, replicate, Some, None, Option}
+-- The worked examples: what the definitions give on small tables. Where nothing else is said, m = 2.
+use Rattle.std.specs.Prelude.{◌≡◌, ℕ, Bool, true, false, List, [], ◌∷◌, take, replicate, Some, None, Option}
 use Rattle.std.proofs.Common.{lit≤}
 use Rattle.table.specs.declared.row.Row.{Row}
 use Rattle.table.specs.Places.{put}
@@ -10,6 +10,11 @@ use Rattle.bounds.specs.Overheads.{over}
 use Rattle.bounds.specs.Responses.{rta, lc}
 use Rattle.orders.specs.declared.range.Range.{Range}
 use Rattle.orders.specs.Ranges.{Open, Closed}
+use Rattle.study.specs.declared.finding.Finding.{Finding}
+use Rattle.study.specs.declared.state.State.TheVariants as state
+use Rattle.study.specs.Slots.{slot}
+use Rattle.study.specs.Moments.{Moment}
+use Rattle.worked.specs.Searches.{BeginsTo, StepsTo}
 
 -- the tasks: a and b are 2/5/5 (wcet, period, deadline), c is 3/6/6
 abbrev pub a : Row
@@ -58,9 +63,17 @@ Overheads =
     (under 1 (rta 2 tasks 3 a_and_b (estimates 2 2)) ≡ Some 6) × (under 2 (rta 2 tasks 3 a_and_b (estimates 2 2)) ≡ None)
     × (under 1 (under 1 (rta 2 tasks 3 a_and_b (estimates 2 2))) ≡ None) × (under 1 (under 0 (rta 2 tasks 3 a_and_b (estimates 2 2))) ≡ Some 6)
 
+-- the answers of rta, as a test on a number of processors
+abbrev pub response : Rta → List Row → ℕ → List Bool → List ℕ → Option ℕ
+response t = rta t.processors.count
+
 -- rta on 2 processors
 abbrev pub on_two : Rta
 on_two = record { processors = record { count = 2; ok = (lit≤ tt, lit≤ tt) } }
+
+-- rta on 1 processor
+abbrev pub on_one : Rta
+on_one = record { processors = record { count = 1; ok = (lit≤ tt, lit≤ tt) } }
 
 -- the range of a from 2 to 3, b from 2 to 3, and c from 3 to a high
 abbrev pub ranged : ℕ → Range
@@ -68,8 +81,45 @@ ranged high = record { lows = estimates 2 2; highs = padded (3 ∷ (3 ∷ (high 
 
 -- under rta it is closed with c from 3 to 4, and open with c from 3 to 5
 abbrev pub Ranged : Type 0
-Ranged = Closed (λ (t : Rta). rta t.processors.count) on_two tasks (ranged 4) × Open (λ (t : Rta). rta t.processors.count) on_two tasks (ranged 5)
+Ranged = Closed response on_two tasks (ranged 4) × Open response on_two tasks (ranged 5)
+
+-- one range is in the ledger, this one
+abbrev pub KeepsOnly : Range → Moment → Type 0
+KeepsOnly r m = (m.study.ledger ≡ 1) × (slot m.ledger 1 ≡ r)
+
+-- a search of the tasks under rta: the first step keeps the closed range and leaves three pending, and the second finds the order b, a, c for the estimates a 2, b 2, c 5
+abbrev pub FoundAfterSplit : Type 0
+FoundAfterSplit =
+    BeginsTo tasks 1 3 (λ begun. StepsTo response on_two begun
+    (λ split. KeepsOnly (ranged 4) split × (split.study.pending ≡ 3) × StepsTo response on_two split
+    (λ found. (f : Finding) × (found.study.state ≡ state.Found f) × (take 3 f.order ≡ 2 ∷ (1 ∷ (3 ∷ []))) × (f.estimates ≡ padded (2 ∷ (2 ∷ (5 ∷ [])))))))
+
+-- a row 2/3/3
+abbrev pub tight : Row
+tight = record { wcet = 2; period = 3; deadline = 3; ok = (lit≤ tt, lit≤ tt, lit≤ tt, lit≤ tt) }
+
+-- two such rows
+abbrev pub pair : List Row
+pair = tight ∷ (tight ∷ [])
+
+-- the range with both from 2 to 3
+abbrev pub both : Range
+both = record { lows = padded (2 ∷ (2 ∷ [])); highs = padded (3 ∷ (3 ∷ [])) }
+
+-- a search of the two rows under rta on 1 processor: the first step keeps the range with both from 2 to 3, and the second says none
+abbrev pub NoneAfterKept : Type 0
+NoneAfterKept =
+    BeginsTo pair 1 1 (λ begun. StepsTo response on_one begun
+    (λ kept. KeepsOnly both kept × StepsTo response on_one kept (λ ended. ended.study.state ≡ state.None)))
+
+-- one row 5/5/5
+abbrev pub lone : List Row
+lone = record { wcet = 5; period = 5; deadline = 5; ok = (lit≤ tt, lit≤ tt, lit≤ tt, lit≤ tt) } ∷ []
+
+-- a search of the one row under rta, on however many processors: the first step finds its order, and no range is in the ledger
+abbrev pub FoundAtOnce : Type 0
+FoundAtOnce = (t : Rta) → BeginsTo lone 1 1 (λ begun. StepsTo response t begun (λ found. (f : Finding) × (found.study.state ≡ state.Found f) × (take 1 f.order ≡ 1 ∷ []) × (found.study.ledger ≡ 0)))
 
 -- all worked examples
 abbrev pub WorkedExamples : Type 0
-WorkedExamples = Work × DeadlineAnalysis × ResponseAnalysis × LimitedAnalysis × Overheads × Ranged
+WorkedExamples = Work × DeadlineAnalysis × ResponseAnalysis × LimitedAnalysis × Overheads × Ranged × FoundAfterSplit × NoneAfterKept × FoundAtOnce

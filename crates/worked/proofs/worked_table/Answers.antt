@@ -10,3 +10,6 @@ returns c =
     let two = added c.add.new.self _ (a ∷ []) a _ one (lit< tt) c.add-2.ensures in
     let three = added c.add-2.new.self _ (a ∷ (a ∷ [])) third _ two (lit< tt) c.add-3.ensures in
     record { rows = (_, refl, three); examples = shown }
+
+pub returns-in_err-add-3-clause-examples : goal.returns-in_err-add-3-clause-examples
+returns-in_err-add-3-clause-examples c = shown

@@ -1,0 +1,161 @@
+-- A search on its way: what it keeps between its steps.
+use Rattle.std.proofs.Common.{◌≡◌, ℕ, suc, ◌+◌, ◌*◌, ◌/◌, ◌≤◌, ◌<◌, Bool, true, false, ◌⊎◌, List, length, Ok, Err, Result, IfOk, IfErr, IsErr, Option, sym, refl, ap, subst, ◌∙◌, inl, inr, arith}
+use Rattle.std.proofs.lemmas.Bool.{cases_lt, cases_eq, false≢true}
+use Rattle.table.specs.declared.row.Row.{Row}
+use Rattle.table.specs.declared.fault.Fault.{Fault}
+use Rattle.table.specs.declared.fault.Fault.TheVariants.{Empty, BadSlots}
+use Rattle.bounds.specs.Questions.{Laws}
+use Rattle.study.specs.declared.room.Room.{Room}
+use Rattle.study.specs.declared.finding.Finding.{Finding}
+use Rattle.study.specs.declared.study.Study.{Study}
+use Rattle.study.specs.declared.state.State.{State}
+use Rattle.study.specs.declared.state.State.TheVariants as state
+use Rattle.study.specs.Counts.{verdicts}
+use Rattle.study.specs.Slots.{HasSlots}
+use Rattle.study.specs.Moments.{Moment, moment, rows_of}
+use Rattle.study.specs.Begins.{HasRoom, Begins}
+use Rattle.study.specs.Steps.{Runs, AsLeft, Leaves, Stepped, Steps, none, keeps, full, finds, splits, stops}
+use Rattle.study.specs.Histories.{Tally, other, Means, Promise, History, begin, no_begin, step}
+use Rattle.study.specs.Searches.{Leads, begins, steps, Searched, Searches, SearchPromise}
+use Rattle.study.proofs.Lawful.{room_of, KeepsAt, Told, begun_keeps, told_begun, stepped_keeps, told_stepped, begin_accepted, begin_refused, step_accepted, counted_running, ok≢err, ready, means, law}
+
+abbrev tally_at : Room → ℕ → Bool → Tally
+tally_at room n stepped = record { slots = room.ledger; steps = n; stepped = stepped }
+
+module _ {T : Type 0} (answer : T → List Row → ℕ → List Bool → List ℕ → Option ℕ) (t : T) where
+  -- n accepted steps after the accepted begin: what is kept, and that every history to the beginning leads here
+  pub record Going (room : Room) (before m : Moment) : Type 0 where
+    pub count : ℕ
+    pub stepped : Bool
+    pub leads : Leads answer t room before count m
+    pub at : KeepsAt answer t m
+    pub told : Told m (tally_at room count stepped)
+    pub same : count ≡ m.study.steps
+    pub alive : (Runs room m) ⊎ ((verdicts m.study.state ≡ 1) × (stepped ≡ true))
+    pub past : (c : Tally) → History answer t before c → History answer t m (tally_at room count stepped)
+
+  pub going_begun : (room : Room) (before after : Moment) → HasRoom room before → Begins before (Ok tt) after → (r : Room) × HasRoom r before × Going r before after
+  going_begun room before after has begun =
+      let on = begin_accepted before after room has begun in (
+        on.0,
+        on.1,
+        record {
+          count = 0;
+          stepped = false;
+          leads = begins begun;
+          at = begun_keeps answer t on.0 before after on.1 on.2;
+          told = told_begun on.0 after on.0.ledger refl on.2.state on.2.steps;
+          same = sym on.2.steps;
+          alive = inl on.2.state;
+          past = λ c h. begin h before.ledger before.pending after on.0 on.1 begun;
+        },
+      )
+
+  -- while a search is running, it is this one
+  pub going_runs : (room : Room) (before m : Moment) → Going room before m → ((r : Room) × Runs r m) → Runs room m
+  going_runs room before m going some = elim going.alive [ inl runs ↦ runs | inr verdict ↦ absurd (omega (arith, verdict.0, ap verdicts some.1)) ]
+
+  module _ (laws : Laws answer) (room : Room) (before m after : Moment) (going : Going room before m) (runs : Runs room m) where
+    -- a step is never refused
+    pub not_refused : (e : Fault) → Steps answer t m (Err e) after → ⊥
+    not_refused e asked = let on = asked.1 (room, runs) in ok≢err e (sym (on.2.1 (ready answer t m going.at on.0 on.1)).0)
+
+    after_step : Stepped answer t room m after → (after.study.steps ≡ m.study.steps + 1) × ((Runs room after) ⊎ (verdicts after.study.state ≡ 1))
+    after_step stepped = elim stepped [
+      | none nothing ends ↦ (ends.steps, inr (ap verdicts ends.state))
+      | keeps grown some closed grows left leaves ↦ (leaves.steps, inl leaves.state)
+      | full some closed lacks ends ↦ (ends.steps, inr (ap verdicts ends.state))
+      | finds f some opens found ends ↦ (ends.steps, inr (ap verdicts ends.state))
+      | splits u some opens closed grows left enough leaves ↦ (leaves.steps, inl leaves.state)
+      | stops u some opens closed grows lacks ends ↦ (ends.steps, inr (ap verdicts ends.state))
+    ]
+
+    did_step : Steps answer t m (Ok tt) after → Stepped answer t room m after
+    did_step took =
+        let on = step_accepted answer t m after (ready answer t m going.at) took in
+        let room_is : on.0 ≡ room = ap (room_of room) (sym on.1 ∙ runs) in
+        subst (λ r. Stepped answer t r m after) room_is on.2
+
+    -- a step counts one more, of at most 4,097
+    pub step_counts : Steps answer t m (Ok tt) after → (after.study.steps ≡ m.study.steps + 1) × (m.study.steps ≤ 4096)
+    step_counts took = let few = counted_running m.study room runs in ((after_step (did_step took)).0, omega (arith, few.0, few.1, few.2))
+
+    pub going_stepped : Steps answer t m (Ok tt) after → Going room before after
+    going_stepped took =
+        let did = did_step took in
+        let next = after_step did in
+        record {
+          count = going.count + 1;
+          stepped = true;
+          leads = steps going.leads (ap verdicts runs) took;
+          at = stepped_keeps answer t laws room m after going.at runs did;
+          told = told_stepped room m after (tally_at room going.count going.stepped) going.told runs answer t did;
+          same = omega (arith, going.same, next.0);
+          alive = elim next.1 [ inl on_it ↦ inl on_it | inr verdict ↦ inr (verdict, refl) ];
+          past = λ c h. step (going.past c h) after took;
+        }
+
+  module _ (room : Room) (before m : Moment) (going : Going room before m) (over : ((r : Room) × Runs r m) → ⊥) where
+    -- the search has ended
+    ended : (verdicts m.study.state ≡ 1) × (going.stepped ≡ true)
+    ended = elim going.alive [ inl runs ↦ absurd (over (room, runs)) | inr verdict ↦ verdict ]
+
+    pub searches_ended : 1 ≤ length (rows_of before) → HasRoom room before → Searches answer t before (Ok tt) m
+    searches_ended some has = (
+      λ empty. absurd (empty some),
+      λ _. (λ bad. absurd (bad (room, has)), λ _. (room, has, refl, record { count = going.count; leads = going.leads; bounded = going.told.bounded; ends = ended.0 })),
+    )
+
+    pub promise_ended : (laws : Laws answer) → HasRoom room before → (c : Tally) → History answer t before c → SearchPromise answer t before m c (Ok tt)
+    promise_ended laws has c h =
+        let slots : room.ledger ≡ length before.ledger / 64 = omega (arith, has.0.2) in
+        let promise = law answer t laws m (tally_at room going.count going.stepped) (going.past c h) in (
+          subst (λ n. Promise answer t m (record { slots = n; steps = m.study.steps; stepped = true })) slots
+              (subst (λ n. Promise answer t m (record { slots = room.ledger; steps = n; stepped = true })) going.same
+              (subst (λ b. Promise answer t m (record { slots = room.ledger; steps = going.count; stepped = b })) ended.1 promise)),
+          tt,
+        )
+
+  -- refused as begin is
+  pub searches_refused : (before after : Moment) (e : Fault) → Begins before (Err e) after → Searches answer t before (Err e) after
+  searches_refused before after e refused = (
+    refused.0,
+    λ some. ((refused.1 some).0, λ q. absurd (ok≢err e (sym ((refused.1 some).1 q).2))),
+  )
+
+  pub promise_refused : (laws : Laws answer) (before after : Moment) (e : Fault) → Begins before (Err e) after → (c : Tally) → History answer t before c → (r : Result (Unit {0}) Fault) → IsErr r → SearchPromise answer t before after c r
+  promise_refused laws before after e refused c h (Ok x) err = absurd (false≢true err)
+  promise_refused laws before after e refused c h (Err x) err =
+      let same = begin_refused before after e refused in
+      (tt, subst (λ x. Promise answer t x (other c)) (sym same) (law answer t laws before (other c) (subst (λ x. History answer t (moment x.study before.ledger before.pending) (other c)) same (no_begin h before.ledger before.pending after e refused))))
+
+-- whether a list has whole slots
+has_slots : (list : List ℕ) → ((n : ℕ) × HasSlots list n) ⊎ (((n : ℕ) × HasSlots list n) → ⊥)
+has_slots list =
+    let n = length list / 64 in
+    elim (cases_eq (length list) (64 * n)) [
+      | inl exact ↦ elim (cases_lt 0 n) [
+        | inl some ↦ elim (cases_lt 4096 n) [
+          | inl many ↦ inr (λ q. omega (arith, q.1.1, q.1.2))
+          | inr few ↦ inl (n, (omega arith, few, exact))
+        ]
+        | inr zero ↦ inr (λ q. omega (arith, q.1.0, q.1.2))
+      ]
+      | inr over ↦ inr (λ q. over (omega (arith, q.1.2)))
+    ]
+
+-- an accepted begin had a row and room
+pub begin_had : (before after : Moment) → Begins before (Ok tt) after → (1 ≤ length (rows_of before)) × ((room : Room) × HasRoom room before)
+begin_had before after begun = elim (cases_lt 0 (length (rows_of before))) [
+  | inl some ↦ (
+    omega arith,
+    elim (has_slots before.ledger) [
+      | inl l ↦ elim (has_slots before.pending) [
+        | inl p ↦ (record { ledger = l.0; pending = p.0 }, (l.1, p.1))
+        | inr other ↦ absurd (ok≢err BadSlots ((begun.1 (omega arith)).0 (λ q. other (q.0.pending, q.1.1))).0)
+      ]
+      | inr other ↦ absurd (ok≢err BadSlots ((begun.1 (omega arith)).0 (λ q. other (q.0.ledger, q.1.0))).0)
+    ],
+  )
+  | inr few ↦ absurd (ok≢err Empty (begun.0 (λ one. omega arith)).0)
+]

@@ -1,0 +1,315 @@
+-- The law over all histories, by one induction.
+use Rattle.std.proofs.Common.{◌≡◌, ℕ, ◌+◌, ◌-◌, ◌*◌, ◌≤◌, ◌<◌, Bool, true, false, ◌⊎◌, List, length, take, Ok, Err, Result, IfOk, IfErr, is_ok, Option, sym, refl, ap, subst, ◌∙◌, inl, inr, arith}
+use Rattle.std.proofs.lemmas.Bool.{false≢true, cases_lt}
+use Rattle.table.specs.declared.row.Row.{Row}
+use Rattle.table.specs.declared.fault.Fault.{Fault}
+use Rattle.table.specs.declared.fault.Fault.TheVariants.{Empty, NotRunning}
+use Rattle.table.specs.Rows.{view}
+use Rattle.table.proofs.View.{few_rows}
+use Rattle.bounds.specs.Questions.{Laws}
+use Rattle.bounds.specs.Orders.{Order, Estimates, Holds, HasLate}
+use Rattle.study.specs.declared.study.Study.{Study}
+use Rattle.study.specs.declared.edit.Edit.{Edit}
+use Rattle.study.specs.declared.edit.Edit.TheVariants.{Add, Alter, Remove}
+use Rattle.study.specs.declared.room.Room.{Room}
+use Rattle.study.specs.declared.finding.Finding.{Finding}
+use Rattle.study.specs.declared.state.State.{State}
+use Rattle.study.specs.declared.state.State.TheVariants as state
+use Rattle.study.specs.Counts.{verdicts, Counted}
+use Rattle.study.specs.Calls.{IsNew, IsDraft, EditsBy}
+use Rattle.study.specs.Moments.{Moment, moment, rows_of}
+use Rattle.study.specs.Begins.{HasRoom, Begun, Begins}
+use Rattle.study.specs.Steps.{Runs, AsLeft, Leaves, Stepped, Steps, none, keeps, full, finds, splits, stops}
+use Rattle.study.specs.Histories.{Tally, none_begun, begun, one_more, other, Means, Promise, StepPromise, History, Law, start, edit, begin, no_begin, step, no_step}
+use Rattle.study.proofs.Sought.{Holding, AllBarred, Sought, sought_kept, sought_split, slot_full}
+use Rattle.study.proofs.Standing.{finding_holds, every_late}
+use Rattle.study.proofs.Started.{sought_begun}
+
+-- which state it is
+abbrev kind : State → ℕ
+kind state.Draft = 0
+kind (state.Running room) = 1
+kind (state.Found finding) = 2
+kind state.None = 3
+kind state.Stopped = 4
+
+abbrev pub room_of : Room → State → Room
+room_of d state.Draft = d
+room_of d (state.Running room) = room
+room_of d (state.Found finding) = d
+room_of d state.None = d
+room_of d state.Stopped = d
+
+abbrev finding_of : Finding → State → Finding
+finding_of d state.Draft = d
+finding_of d (state.Running room) = d
+finding_of d (state.Found finding) = finding
+finding_of d state.None = d
+finding_of d state.Stopped = d
+
+module _ {T : Type 0} (answer : T → List Row → ℕ → List Bool → List ℕ → Option ℕ) (t : T) where
+  -- what a moment's verdict and ledger say, on these rows, in this state, with n ledger slots counted
+  pub record Stands (rows : List Row) (s : State) (n : ℕ) (l : List ℕ) : Type 0 where
+    pub found : (f : Finding) → s ≡ state.Found f → Order (length rows) (take (length rows) f.order) × Holds answer t rows (take (length rows) f.order)
+    pub none : s ≡ state.None → (order : List ℕ) → Order (length rows) order → HasLate answer t rows order
+    pub barred : AllBarred answer t rows n l
+    pub covered : s ≡ state.None → (es : List ℕ) → Estimates rows es → Holding rows l n es
+
+  -- and, if a search is running, what it keeps
+  pub record Keeps (rows : List Row) (s : State) (n m : ℕ) (l p : List ℕ) : Type 0 where
+    pub stands : Stands rows s n l
+    pub runs : (room : Room) → s ≡ state.Running room → Sought answer t rows room n m l p
+
+  -- in a state that is no verdict on orders, only the ledger speaks
+  quiet : (rows : List Row) (s : State) (n : ℕ) (l : List ℕ) → ((f : Finding) → s ≡ state.Found f → ⊥) → (s ≡ state.None → ⊥) → AllBarred answer t rows n l → Stands rows s n l
+  quiet rows s n l not_found not_none barred = record {
+    found = λ f is. absurd (not_found f is);
+    none = λ is. absurd (not_none is);
+    barred = barred;
+    covered = λ is. absurd (not_none is);
+  }
+
+  running : (rows : List Row) (room : Room) (n m : ℕ) (l p : List ℕ) → Sought answer t rows room n m l p → Keeps rows (state.Running room) n m l p
+  running rows room n m l p sought = record {
+    stands = quiet rows (state.Running room) n l (λ f is. absurd (omega (arith, ap kind is))) (λ is. absurd (omega (arith, ap kind is))) sought.barred;
+    runs = λ r is. subst (λ x. Sought answer t rows x n m l p) (ap (room_of room) is) sought;
+  }
+
+  stopped : (rows : List Row) (n m : ℕ) (l p : List ℕ) → AllBarred answer t rows n l → Keeps rows state.Stopped n m l p
+  stopped rows n m l p barred = record {
+    stands = quiet rows state.Stopped n l (λ f is. absurd (omega (arith, ap kind is))) (λ is. absurd (omega (arith, ap kind is))) barred;
+    runs = λ r is. absurd (omega (arith, ap kind is));
+  }
+
+  drafted : (rows : List Row) (l p : List ℕ) → Keeps rows state.Draft 0 0 l p
+  drafted rows l p = record {
+    stands = quiet rows state.Draft 0 l (λ f is. absurd (omega (arith, ap kind is))) (λ is. absurd (omega (arith, ap kind is))) (λ i low high. absurd (omega arith));
+    runs = λ r is. absurd (omega (arith, ap kind is));
+  }
+
+  ended_none : (rows : List Row) (n m : ℕ) (l p : List ℕ) → AllBarred answer t rows n l → ((es : List ℕ) → Estimates rows es → Holding rows l n es) → ((order : List ℕ) → Order (length rows) order → HasLate answer t rows order) → Keeps rows state.None n m l p
+  ended_none rows n m l p barred cover late = record {
+    stands = record { found = λ f is. absurd (omega (arith, ap kind is)); none = λ is. late; barred = barred; covered = λ is. cover };
+    runs = λ r is. absurd (omega (arith, ap kind is));
+  }
+
+  ended_found : (rows : List Row) (f : Finding) (n m : ℕ) (l p : List ℕ) → AllBarred answer t rows n l → Order (length rows) (take (length rows) f.order) × Holds answer t rows (take (length rows) f.order) → Keeps rows (state.Found f) n m l p
+  ended_found rows f n m l p barred shows = record {
+    stands = record {
+      found = λ g is. subst (λ (x : Finding). Order (length rows) (take (length rows) x.order) × Holds answer t rows (take (length rows) x.order)) (ap (finding_of f) is) shows;
+      none = λ is. absurd (omega (arith, ap kind is));
+      barred = barred;
+      covered = λ is. absurd (omega (arith, ap kind is));
+    };
+    runs = λ r is. absurd (omega (arith, ap kind is));
+  }
+
+  -- the same of a moment
+  abbrev pub KeepsAt : Moment → Type 0
+  KeepsAt m = Keeps (rows_of m) m.study.state m.study.ledger m.study.pending m.ledger m.pending
+
+  keeps_at : (after : Moment) (rows : List Row) (s : State) (n m : ℕ) (l p : List ℕ) → rows_of after ≡ rows → after.study.state ≡ s → after.study.ledger ≡ n → after.study.pending ≡ m → after.ledger ≡ l → after.pending ≡ p → Keeps rows s n m l p → KeepsAt after
+  keeps_at after rows s n m l p r a b c d e was =
+      subst (λ x. Keeps x after.study.state after.study.ledger after.study.pending after.ledger after.pending) (sym r)
+      (subst (λ x. Keeps rows x after.study.ledger after.study.pending after.ledger after.pending) (sym a)
+      (subst (λ x. Keeps rows s x after.study.pending after.ledger after.pending) (sym b)
+      (subst (λ x. Keeps rows s n x after.ledger after.pending) (sym c)
+      (subst (λ x. Keeps rows s n m x after.pending) (sym d)
+      (subst (λ x. Keeps rows s n m l x) (sym e) was)))))
+
+  -- after a step
+  leaves_keeps : (before after : Moment) (s : State) (n m : ℕ) (l p : List ℕ) → Leaves before s n m l p after → Keeps (rows_of before) s n m l p → KeepsAt after
+  leaves_keeps before after s n m l p leaves = keeps_at after (rows_of before) s n m l p (ap view leaves.table) leaves.state leaves.ledger leaves.pending leaves.ledger_list leaves.pending_list
+
+  draft_keeps : (s : Study) (l p : List ℕ) → IsDraft s → KeepsAt (moment s l p)
+  draft_keeps s l p draft = keeps_at (moment s l p) (view s.table) state.Draft 0 0 l p refl draft.state draft.ledger draft.pending refl refl (drafted (view s.table) l p)
+
+  pub begun_keeps : (room : Room) (before after : Moment) → HasRoom room before → Begun room before after → KeepsAt after
+  begun_keeps room before after has begins =
+      let few = few_rows before.study.table in
+      keeps_at after (rows_of before) (state.Running room) 0 1 _ _ (ap view begins.table) begins.state begins.ledger begins.pending begins.ledger_list begins.pending_list
+      (running (rows_of before) room 0 1 _ _ (sought_begun (rows_of before) few answer t room before.ledger before.pending has.1.0 has.0.2 has.1.2))
+
+  module _ (laws : Laws answer) where
+    pub stepped_keeps : (room : Room) (before after : Moment) → KeepsAt before → Runs room before → Stepped answer t room before after → KeepsAt after
+    stepped_keeps room before after at runs stepped =
+        let rows = rows_of before in
+        let n = before.study.ledger in
+        let m = before.study.pending in
+        let l = before.ledger in
+        let p = before.pending in
+        let few = few_rows before.study.table in
+        let sought = at.runs room runs in
+        elim stepped [
+          | none nothing ends ↦
+              let cover : (es : List ℕ) → Estimates rows es → Holding rows l n es = λ es est. elim (sought.cover es est) [ inl kept ↦ kept | inr waits ↦ absurd (omega (arith, waits.1, waits.2, nothing)) ] in
+              leaves_keeps before after _ _ _ _ _ ends (ended_none rows n m l p sought.barred cover (every_late laws t rows few n l sought.barred cover))
+          | keeps grown some closed grows left leaves ↦ leaves_keeps before after _ _ _ _ _ leaves (running rows room _ _ _ _ (sought_kept laws t rows few room n m l p sought some left grown closed grows))
+          | full some closed lacks ends ↦ leaves_keeps before after _ _ _ _ _ ends (stopped rows n m l p sought.barred)
+          | finds f some opens found ends ↦
+              let whole = slot_full p m some (omega (arith, sought.long_pending, sought.few_waiting)) in
+              leaves_keeps before after _ _ _ _ _ ends (ended_found rows f n m l p sought.barred (finding_holds laws t rows few _ f whole (sought.waiting m some (omega arith)) found))
+          | splits u some opens closed grows left enough leaves ↦ leaves_keeps before after _ _ _ _ _ leaves (running rows room _ _ _ _ (sought_split laws t rows few room n m l p sought some left u closed grows enough))
+          | stops u some opens closed grows lacks ends ↦ leaves_keeps before after _ _ _ _ _ ends (stopped rows n m l p sought.barred)
+        ]
+
+-- what a running study's counts say
+pub counted_running : (s : Study) (room : Room) → s.state ≡ state.Running room → (s.ledger ≤ room.ledger) × (s.steps ≡ s.ledger) × (room.ledger ≤ 4096)
+counted_running s room is = let c = subst (λ x. Counted x s.ledger s.pending s.steps) is s.counted in (c.0, omega (arith, c.4), c.1)
+
+-- A moment's tally: while a search is running, it is that of the search.
+pub record Told (m : Moment) (c : Tally) : Type 0 where
+  pub bounded : c.steps ≤ c.slots + 1
+  pub last : c.stepped ≡ true → c.steps ≡ c.slots + 1 → verdicts m.study.state ≡ 1
+  pub runs : (room : Room) → Runs room m → (c.slots ≡ room.ledger) × (c.steps ≡ m.study.steps)
+
+-- a refused call, or an edit
+told_other : (m after : Moment) (c : Tally) → Told m c → after.study ≡ m.study → Told after (other c)
+told_other m after c told same = record {
+  bounded = told.bounded;
+  last = λ no. absurd (false≢true no);
+  runs = λ room runs. let is = told.runs room (ap (λ (s : Study). s.state) (sym same) ∙ runs) in (is.0, is.1 ∙ ap (λ (s : Study). s.steps) (sym same));
+}
+
+told_draft : (after : Moment) (slots steps : ℕ) → steps ≤ slots + 1 → after.study.state ≡ state.Draft → Told after (record { slots = slots; steps = steps; stepped = false })
+told_draft after slots steps le draft = record {
+  bounded = le;
+  last = λ no. absurd (false≢true no);
+  runs = λ room runs. absurd (omega (arith, ap kind (sym draft ∙ runs)));
+}
+
+-- an accepted begin
+pub told_begun : (room : Room) (after : Moment) (slots : ℕ) → slots ≡ room.ledger → after.study.state ≡ state.Running room → after.study.steps ≡ 0 → Told after (begun slots)
+told_begun room after slots same is steps = record {
+  bounded = omega arith;
+  last = λ no. absurd (false≢true no);
+  runs = λ r runs. (same ∙ ap (λ (x : Room). x.ledger) (ap (room_of room) (sym is ∙ runs)), sym steps);
+}
+
+module _ (room : Room) (before after : Moment) (c : Tally) (told : Told before c) (runs : Runs room before) where
+  step_bounded : c.steps + 1 ≤ c.slots + 1
+  step_bounded = let was = told.runs room runs in let few = counted_running before.study room runs in omega (arith, was.0, was.1, few.0, few.1)
+
+  -- a step that ends the search
+  told_ended : (s : State) → after.study.state ≡ s → verdicts s ≡ 1 → Told after (one_more c)
+  told_ended s is verdict = record {
+    bounded = step_bounded;
+    last = λ _ _. ap verdicts is ∙ verdict;
+    runs = λ r runs'. absurd (omega (arith, ap verdicts (sym is ∙ runs'), verdict));
+  }
+
+  -- a step after which it still runs
+  told_running : after.study.state ≡ state.Running room → after.study.steps ≡ before.study.steps + 1 → Told after (one_more c)
+  told_running is steps =
+      let was = told.runs room runs in
+      let few = counted_running after.study room is in
+      record {
+        bounded = step_bounded;
+        last = λ _ full. absurd (omega (arith, was.0, was.1, few.0, few.1, steps, full));
+        runs = λ r runs'. (was.0 ∙ ap (λ (x : Room). x.ledger) (ap (room_of room) (sym is ∙ runs')), omega (arith, was.1, steps));
+      }
+
+  pub told_stepped : {T : Type 0} (answer : T → List Row → ℕ → List Bool → List ℕ → Option ℕ) (t : T) → Stepped answer t room before after → Told after (one_more c)
+  told_stepped answer t stepped = elim stepped [
+    | none nothing ends ↦ told_ended state.None ends.state refl
+    | keeps grown some closed grows left leaves ↦ told_running leaves.state leaves.steps
+    | full some closed lacks ends ↦ told_ended state.Stopped ends.state refl
+    | finds f some opens found ends ↦ told_ended (state.Found f) ends.state refl
+    | splits u some opens closed grows left enough leaves ↦ told_running leaves.state leaves.steps
+    | stops u some opens closed grows lacks ends ↦ told_ended state.Stopped ends.state refl
+  ]
+
+-- an accepted call is not a refused one
+pub ok≢err : (e : Fault) → ◌≡◌ {A = Result (Unit {0}) Fault} (Ok tt) (Err e) → ⊥
+ok≢err e is = false≢true (sym (ap is_ok is))
+
+edit_parts : (e : Edit) (s : Study) (r : Result (Unit {0}) Fault) (after : Study) → EditsBy e s r after → IfOk r (λ _. IsDraft after) × IfErr r (λ _. after ≡ s)
+edit_parts (Add wcet period deadline) s r after edits = (edits.1, edits.2)
+edit_parts (Alter k wcet period deadline) s r after edits = (edits.1, edits.2)
+edit_parts (Remove k) s r after edits = (edits.1, edits.2)
+
+-- an accepted begin had a row, and its search has begun
+pub begin_accepted : (before after : Moment) (room : Room) → HasRoom room before → Begins before (Ok tt) after → (r : Room) × HasRoom r before × Begun r before after
+begin_accepted before after room has begins = elim (cases_lt 0 (length (rows_of before))) [
+  | inl some ↦ let on = (begins.1 (omega arith)).1 (room, has) in (on.0, on.1, on.3)
+  | inr few ↦ absurd (ok≢err Empty (begins.0 (λ one. omega arith)).0)
+]
+
+-- a refused begin alters nothing
+pub begin_refused : (before after : Moment) (e : Fault) → Begins before (Err e) after → after ≡ before
+begin_refused before after e begins = elim (cases_lt 0 (length (rows_of before))) [
+  | inl some ↦ let asks = begins.1 (omega arith) in (asks.0 (λ q. ok≢err e (sym (asks.1 q).2))).1
+  | inr few ↦ (begins.0 (λ one. omega arith)).1
+]
+
+pub running_or_not : (s : State) → ((room : Room) × (s ≡ state.Running room)) ⊎ (((room : Room) × (s ≡ state.Running room)) → ⊥)
+running_or_not state.Draft = inr (λ q. omega (arith, ap kind q.1))
+running_or_not (state.Running room) = inl (room, refl)
+running_or_not (state.Found f) = inr (λ q. omega (arith, ap kind q.1))
+running_or_not state.None = inr (λ q. omega (arith, ap kind q.1))
+running_or_not state.Stopped = inr (λ q. omega (arith, ap kind q.1))
+
+module _ {T : Type 0} (answer : T → List Row → ℕ → List Bool → List ℕ → Option ℕ) (t : T) where
+  -- an accepted step does a step's work
+  pub step_accepted : (before after : Moment) → ((room : Room) → Runs room before → AsLeft room before) → Steps answer t before (Ok tt) after → (room : Room) × Runs room before × Stepped answer t room before after
+  step_accepted before after ready steps = elim (running_or_not before.study.state) [
+    | inl runs ↦ let on = steps.1 runs in (on.0, on.1, (on.2.1 (ready on.0 on.1)).1)
+    | inr other ↦ absurd (ok≢err NotRunning (steps.0 other).0)
+  ]
+
+  -- a refused step alters nothing
+  pub step_refused : (before after : Moment) (e : Fault) → Steps answer t before (Err e) after → after ≡ before
+  step_refused before after e steps = elim (running_or_not before.study.state) [
+    | inl runs ↦ let on = steps.1 runs in (on.2.0 (λ left. ok≢err e (sym (on.2.1 left).0))).1
+    | inr other ↦ (steps.0 other).1
+  ]
+
+  -- while a search is running, the lists are as it left them
+  pub ready : (m : Moment) → KeepsAt answer t m → (room : Room) → Runs room m → AsLeft room m
+  ready m at room runs =
+      let sought = at.runs room runs in
+      (sought.long_ledger, sought.long_pending, λ some. sought.waiting m.study.pending some (omega arith))
+
+  -- what is kept of a moment is what it means
+  pub means : (m : Moment) → KeepsAt answer t m → Means answer t m
+  means m at = record { found = at.stands.found; none = at.stands.none; ledger = at.stands.barred; covered = at.stands.covered }
+
+  -- a call that leaves the study as it was
+  as_it_was : (m : Moment) (c : Tally) (s : Study) → s ≡ m.study → KeepsAt answer t m × Told m c → KeepsAt answer t (moment s m.ledger m.pending) × Told (moment s m.ledger m.pending) (other c)
+  as_it_was m c s same was = (subst (λ x. KeepsAt answer t (moment x m.ledger m.pending)) (sym same) was.0, told_other m (moment s m.ledger m.pending) c was.1 same)
+
+  edited : (m : Moment) (c : Tally) (s : Study) (r : Result (Unit {0}) Fault) → IfOk r (λ _. IsDraft s) × IfErr r (λ _. s ≡ m.study) → KeepsAt answer t m × Told m c → KeepsAt answer t (moment s m.ledger m.pending) × Told (moment s m.ledger m.pending) (other c)
+  edited m c s (Ok x) parts was = (draft_keeps answer t s m.ledger m.pending parts.0, told_draft (moment s m.ledger m.pending) c.slots c.steps was.1.bounded parts.0.state)
+  edited m c s (Err e) parts was = as_it_was m c s parts.1 was
+
+  module _ (laws : Laws answer) where
+    along : {m : Moment} {c : Tally} → History answer t m c → KeepsAt answer t m × Told m c
+    along (start s l p new) = (draft_keeps answer t s l p new.1, told_draft (moment s l p) 0 0 (omega arith) new.1.state)
+    along (edit {m} {c} h e r s edits) = edited m c s r (edit_parts e m.study r s edits) (along h)
+    along (begin {m} {c} h l p after room has begins) =
+        let on = begin_accepted (moment m.study l p) after room has begins in
+        (begun_keeps answer t on.0 (moment m.study l p) after on.1 on.2, told_begun on.0 after room.ledger (omega (arith, has.0.2, on.1.0.2)) on.2.state on.2.steps)
+    along (no_begin {m} {c} h l p after e begins) = as_it_was m c after.study (ap (λ (x : Moment). x.study) (begin_refused (moment m.study l p) after e begins)) (along h)
+    along (step {m} {c} h after steps) =
+        let was = along h in
+        let on = step_accepted m after (ready m was.0) steps in
+        (stepped_keeps answer t laws on.0 m after was.0 on.1 on.2, told_stepped on.0 m after c was.1 on.1 answer t on.2)
+    along (no_step {m} {c} h l p after e steps) = as_it_was m c after.study (ap (λ (x : Moment). x.study) (step_refused (moment m.study l p) after e steps)) (along h)
+
+    pub law : Law answer t
+    law m c h =
+        let at = along h in
+        record {
+          means = means m at.0;
+          counted = m.study.counted.4;
+          bounded = at.1.bounded;
+          last = at.1.last;
+          ready = ready m at.0;
+        }
+
+    -- the promise after a step from the end of a history
+    pub step_promise : (m after : Moment) (c : Tally) (r : Result (Unit {0}) Fault) → Steps answer t m r after → History answer t m c → StepPromise answer t after c r
+    step_promise m after c (Ok x) steps h = (law after (one_more c) (step h after steps), tt)
+    step_promise m after c (Err e) steps h =
+        let same = step_refused m after e steps in
+        (tt, subst (λ x. Promise answer t x (other c)) (sym same) (law m (other c) (subst (λ x. History answer t (moment x.study m.ledger m.pending) (other c)) same (no_step h m.ledger m.pending after e steps))))

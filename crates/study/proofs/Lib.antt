@@ -1,0 +1,13 @@
+pub mod Overs
+pub mod Edited
+pub mod Pieced
+pub mod Turned
+pub mod Zeros
+pub mod Stepping
+pub mod Covers
+pub mod Runs
+pub mod Sought
+pub mod Standing
+pub mod Started
+pub mod Lawful
+pub mod Going

@@ -1,0 +1,6 @@
+use Rattle.std.proofs.Common.{◌≡◌, length}
+use Rattle.study.specs.Pieces.{pieces}
+use Rattle.study.proofs.pieces.count_pieces.Given as goal
+
+abbrev pub invariant-loop-place : goal.invariant-loop-place
+invariant-loop-place l = l.count ≡ length (pieces l.taken l.bound l.place)

@@ -1,0 +1,92 @@
+-- Histories of calls, and the law that holds after each call.
+use Rattle.std.specs.Prelude.{◌≡◌, ℕ, ◌+◌, ◌≤◌, Bool, true, false, List, length, take, Ok, Err, Result, IfOk, IfErr, Option}
+use Rattle.table.specs.declared.row.Row.{Row}
+use Rattle.table.specs.declared.fault.Fault.{Fault}
+use Rattle.bounds.specs.Orders.{Order, Estimates, Holds, HasLate}
+use Rattle.orders.specs.declared.range.Range.{Range}
+use Rattle.orders.specs.Ranges.{Within, Wider, LiesIn, Open, Closed}
+use Rattle.study.specs.declared.study.Study.{Study}
+use Rattle.study.specs.declared.edit.Edit.{Edit}
+use Rattle.study.specs.declared.room.Room.{Room}
+use Rattle.study.specs.declared.finding.Finding.{Finding}
+use Rattle.study.specs.declared.state.State.TheVariants as state
+use Rattle.study.specs.Counts.{verdicts}
+use Rattle.study.specs.Slots.{slot}
+use Rattle.study.specs.Calls.{IsNew, EditsBy}
+use Rattle.study.specs.Moments.{Moment, moment, rows_of}
+use Rattle.study.specs.Begins.{HasRoom, Begins}
+use Rattle.study.specs.Steps.{Runs, AsLeft, Steps}
+
+-- What a history counts: the ledger slots of the last accepted begin, the accepted steps since, and whether the last call was an accepted step.
+pub record Tally : Type 0 where
+  pub slots : ℕ
+  pub steps : ℕ
+  pub stepped : Bool
+
+-- before any call
+abbrev pub none_begun : Tally
+none_begun = record { slots = 0; steps = 0; stepped = false }
+
+-- after an accepted begin on a ledger of n slots
+abbrev pub begun : ℕ → Tally
+begun n = record { slots = n; steps = 0; stepped = false }
+
+-- after an accepted step
+abbrev pub one_more : Tally → Tally
+one_more c = record { slots = c.slots; steps = c.steps + 1; stepped = true }
+
+-- after any other call
+abbrev pub other : Tally → Tally
+other c = record { slots = c.slots; steps = c.steps; stepped = false }
+
+module _ {T : Type 0} (answer : T → List Row → ℕ → List Bool → List ℕ → Option ℕ) (t : T) where
+  -- A history of calls under one test: it begins with a new study and two lists of any length and contents, and nothing but its calls writes to them.
+  pub data History : Moment → Tally → Type 0 where
+    start : (s : Study) (l p : List ℕ) → IsNew s → History (moment s l p) none_begun
+    -- an edit, accepted or refused
+    edit : {m : Moment} {c : Tally} → History m c → (e : Edit) (r : Result (Unit {0}) Fault) (s : Study) → EditsBy e m.study r s → History (moment s m.ledger m.pending) (other c)
+    -- an accepted begin, on the lists at hand or on two others, which take their place
+    begin : {m : Moment} {c : Tally} → History m c → (l p : List ℕ) (after : Moment) (room : Room) → HasRoom room (moment m.study l p) → Begins (moment m.study l p) (Ok tt) after → History after (begun room.ledger)
+    -- a refused begin, on any lists: those at hand stay
+    no_begin : {m : Moment} {c : Tally} → History m c → (l p : List ℕ) (after : Moment) (e : Fault) → Begins (moment m.study l p) (Err e) after → History (moment after.study m.ledger m.pending) (other c)
+    -- an accepted step, on the lists at hand
+    step : {m : Moment} {c : Tally} → History m c → (after : Moment) → Steps answer t m (Ok tt) after → History after (one_more c)
+    -- a refused step, on any lists: those at hand stay
+    no_step : {m : Moment} {c : Tally} → History m c → (l p : List ℕ) (after : Moment) (e : Fault) → Steps answer t (moment m.study l p) (Err e) after → History (moment after.study m.ledger m.pending) (other c)
+
+  -- a ledger range: no order passes it, and every wider range of the table is passed by one
+  pub record Barred (rows : List Row) (r : Range) : Type 0 where
+    pub within : Within rows r
+    pub closed : Closed answer t rows r
+    pub wider : (w : Range) → Within rows w → Wider rows w r → Open answer t rows w
+
+  -- What a verdict and a ledger mean.
+  pub record Means (m : Moment) : Type 0 where
+    -- found: the order shown lists every row once, and no task of it is late
+    pub found : (f : Finding) → m.study.state ≡ state.Found f → Order (length (rows_of m)) (take (length (rows_of m)) f.order) × Holds answer t (rows_of m) (take (length (rows_of m)) f.order)
+    -- none: every order has a late task
+    pub none : m.study.state ≡ state.None → (order : List ℕ) → Order (length (rows_of m)) order → HasLate answer t (rows_of m) order
+    -- each counted ledger range is closed and as wide as it can be
+    pub ledger : (i : ℕ) → 1 ≤ i → i ≤ m.study.ledger → Barred (rows_of m) (slot m.ledger i)
+    -- on none, every list of estimates lies in a counted ledger range
+    pub covered : m.study.state ≡ state.None → (estimates : List ℕ) → Estimates (rows_of m) estimates → (i : ℕ) × (1 ≤ i) × (i ≤ m.study.ledger) × LiesIn (rows_of m) estimates (slot m.ledger i)
+
+  -- What is promised of a moment.
+  pub record Promise (m : Moment) (c : Tally) : Type 0 where
+    pub means : Means m
+    -- the steps are as many as the ledger ranges, and one more if there is a verdict
+    pub counted : m.study.steps ≡ m.study.ledger + verdicts m.study.state
+    -- since an accepted begin on s ledger slots there were at most s + 1 accepted steps
+    pub bounded : c.steps ≤ c.slots + 1
+    -- and the one that makes them s + 1 leaves a verdict
+    pub last : c.stepped ≡ true → c.steps ≡ c.slots + 1 → verdicts m.study.state ≡ 1
+    -- while a search is running, a step on the lists at hand is not refused
+    pub ready : (room : Room) → Runs room m → AsLeft room m
+
+  -- The law: the promise holds after each call of every history.
+  abbrev pub Law : Type 0
+  Law = (m : Moment) (c : Tally) → History m c → Promise m c
+
+  -- the promise after a step that was accepted or refused
+  abbrev pub StepPromise : Moment → Tally → Result (Unit {0}) Fault → Type 0
+  StepPromise after c r = IfOk r (λ _. Promise after (one_more c)) × IfErr r (λ _. Promise after (other c))

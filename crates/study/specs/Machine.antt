@@ -1,0 +1,17 @@
+-- What a study does with any call.
+use Rattle.std.specs.Prelude.{◌≡◌, ℕ, Bool, List, Result, Option}
+use Rattle.table.specs.declared.row.Row.{Row}
+use Rattle.table.specs.declared.fault.Fault.{Fault}
+use Rattle.study.specs.declared.call.Call.{Call}
+use Rattle.study.specs.declared.call.Call.TheVariants as call
+use Rattle.study.specs.Calls.{EditsBy}
+use Rattle.study.specs.Moments.{Moment}
+use Rattle.study.specs.Begins.{Begins}
+use Rattle.study.specs.Steps.{Steps}
+
+module _ {T : Type 0} (answer : T → List Row → ℕ → List Bool → List ℕ → Option ℕ) (t : T) where
+  -- for each call, what it does with a study and two lists; an edit touches no list
+  abbrev pub Calls : Call → Moment → Result (Unit {0}) Fault → Moment → Type 0
+  Calls (call.Edit edit) before r after = EditsBy edit before.study r after.study × (after.ledger ≡ before.ledger) × (after.pending ≡ before.pending)
+  Calls call.Begin before r after = Begins before r after
+  Calls call.Step before r after = Steps answer t before r after

@@ -1,0 +1,12 @@
+// What may be asked of a study.
+use crate::edit::Edit;
+
+#[derive(Clone, Copy, PartialEq, Eq, Debug)]
+pub enum Call {
+    /// Edits the table.
+    Edit(Edit),
+    /// Begins a search.
+    Begin,
+    /// Does one step of a search.
+    Step,
+}

@@ -1,0 +1,40 @@
+// The pieces that replace a taken range.
+ghost use Rattle.std.specs.Prelude.{◌≡◌, ◌+◌, ◌-◌, ◌*◌, ◌≤◌, length};
+ghost use Rattle.study.specs.Pieces.{pieces, put_slots};
+
+use crate::lists::write_slot;
+use orders::range::Range;
+
+// How many pieces there are: one for each row whose high in `bound` is below its taken high.
+pub(crate) fn count_pieces(rows: usize, taken: &Range, bound: &Range) -> usize
+    requires { rows ≤ 32 }
+    ensures { result ≡ length (pieces taken.now bound.now rows) }
+{
+    let mut count = 0;
+    for place in 0..rows {
+        if bound.highs[place] < taken.highs[place] {
+            count += 1;
+        }
+    }
+    count
+}
+
+// Writes the pieces into the slots from `k` on.
+pub(crate) fn write_pieces(list: &mut [u32], k: usize, rows: usize, taken: &Range, bound: &Range)
+    requires few { (rows ≤ 32) × (k ≤ 4096) }
+    requires room { (1 ≤ k) × (64 * (k - 1 + length (pieces taken.now bound.now rows)) ≤ length list.old) }
+    ensures { list.new ≡ put_slots list.old k (pieces taken.now bound.now rows) }
+{
+    let mut slot = k;
+    let mut cut = *taken;
+    for place in 0..rows {
+        let high = bound.highs[place];
+        if high < taken.highs[place] {
+            let mut piece = cut;
+            piece.lows[place] = high + 1;
+            write_slot(list, slot, &piece);
+            slot += 1;
+        }
+        cut.highs[place] = high.min(taken.highs[place]);
+    }
+}

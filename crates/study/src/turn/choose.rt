@@ -1,0 +1,36 @@
+// The choice of what a step does with a range.
+ghost use Rattle.table.specs.Rows.{view};
+ghost use Rattle.orders.specs.Ranges.{Within};
+ghost use Rattle.study.specs.Turns.{Turns};
+
+use super::Turn;
+use crate::finding::Finding;
+use bounds::test::Test;
+use orders::assign::assign;
+use orders::grow::grow;
+use orders::range::Range;
+use table::row::Row;
+use table::rows::Table;
+
+impl Turn {
+    // What is done with a range of the table.
+    pub(crate) fn new<T: Test>(test: &T, table: &Table<Row>, taken: &Range) -> Turn
+        requires { Within (view table.now) taken.now }
+        ensures { Turns T.answer test.now (view table.now) taken.now result }
+    {
+        if assign(test, table, taken).is_none() {
+            return Turn::Keep(grow(test, table, taken));
+        }
+        let lows = Range {
+            lows: taken.lows,
+            highs: taken.lows,
+        };
+        match assign(test, table, &lows) {
+            Some(order) => Turn::Find(Finding {
+                order,
+                estimates: taken.lows,
+            }),
+            None => Turn::Split(grow(test, table, &lows)),
+        }
+    }
+}
