@@ -4,7 +4,7 @@ use Rattle.table.specs.declared.fault.Place.{Place}
 use Rattle.table.specs.declared.fault.Layer.{Layer}
 use Rattle.table.specs.declared.fault.Layer.TheVariants as layer
 use Rattle.table.specs.declared.fault.Fault.{Fault}
-use Rattle.table.specs.declared.fault.Fault.TheVariants.{Full, NoRow, BadRow, BadTest, Empty, BadSlots, NotRunning, OtherLists, BadOrder, BadLength}
+use Rattle.table.specs.declared.fault.Fault.TheVariants.{BadText, BadNames, BadFieldCount, BadField, BadLineCount, RepeatedTask, BadAnswer, NoAnswer, Full, NoRow, BadRow, BadTest, Empty, BadSlots, NotRunning, OtherLists, BadOrder, BadLength}
 
 -- no sheet
 abbrev pub nowhere : Place
@@ -12,6 +12,14 @@ nowhere = record { sheet = 0; line = 0; field = 0 }
 
 -- the number of the question that was missed
 abbrev pub number_of : Fault → ℕ
+number_of (BadText p) = 1
+number_of (BadNames p) = 2
+number_of (BadFieldCount p) = 3
+number_of (BadField p) = 4
+number_of (BadLineCount p) = 5
+number_of (RepeatedTask p) = 6
+number_of (BadAnswer p) = 7
+number_of (NoAnswer p) = 8
 number_of Full = 9
 number_of NoRow = 10
 number_of (BadRow p) = 11
@@ -25,6 +33,14 @@ number_of BadLength = 18
 
 -- the layer that asked it
 abbrev pub layer_of : Fault → Layer
+layer_of (BadText p) = layer.Sheet
+layer_of (BadNames p) = layer.Sheet
+layer_of (BadFieldCount p) = layer.Sheet
+layer_of (BadField p) = layer.Sheet
+layer_of (BadLineCount p) = layer.Sheet
+layer_of (RepeatedTask p) = layer.Pair
+layer_of (BadAnswer p) = layer.Pair
+layer_of (NoAnswer p) = layer.Pair
 layer_of Full = layer.Table
 layer_of NoRow = layer.Table
 layer_of (BadRow p) = layer.Table
@@ -38,6 +54,14 @@ layer_of BadLength = layer.Study
 
 -- the place on a sheet; nowhere without a sheet
 abbrev pub place_of : Fault → Place
+place_of (BadText p) = p
+place_of (BadNames p) = p
+place_of (BadFieldCount p) = p
+place_of (BadField p) = p
+place_of (BadLineCount p) = p
+place_of (RepeatedTask p) = p
+place_of (BadAnswer p) = p
+place_of (NoAnswer p) = p
 place_of Full = nowhere
 place_of NoRow = nowhere
 place_of (BadRow p) = p
@@ -51,6 +75,14 @@ place_of BadLength = nowhere
 
 -- what it says in words
 abbrev pub words_of : Fault → List ℕ
+words_of (BadText p) = codes "the text is empty, too long, or has no line feed at its end"
+words_of (BadNames p) = codes "line 1 has not just the names of the sheet, each once"
+words_of (BadFieldCount p) = codes "the line has not as many fields as line 1"
+words_of (BadField p) = codes "the field has not the form of its kind"
+words_of (BadLineCount p) = codes "the sheet has too few or too many value lines"
+words_of (RepeatedTask p) = codes "the name stands on an earlier line too"
+words_of (BadAnswer p) = codes "the name is no task, or stands on an earlier line too"
+words_of (NoAnswer p) = codes "the task has no answer"
 words_of Full = codes "the table is full"
 words_of NoRow = codes "there is no such row"
 words_of (BadRow p) = codes "the numbers make no row"

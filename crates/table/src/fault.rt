@@ -26,6 +26,8 @@ impl Place {
 /// Which layer asked the question.
 #[derive(Clone, Copy, PartialEq, Eq, Debug)]
 pub enum Layer {
+    Sheet,
+    Pair,
     Table,
     Board,
     Study,
@@ -34,6 +36,22 @@ pub enum Layer {
 /// Why a call is refused.
 #[derive(Clone, Copy, PartialEq, Eq, Debug)]
 pub enum Fault {
+    /// The text is empty, too long, or has no line feed at its end.
+    BadText(Place),
+    /// Line 1 has not just the sheet's names, each once.
+    BadNames(Place),
+    /// The line has not as many fields as line 1.
+    BadFieldCount(Place),
+    /// The field has not the form of its kind.
+    BadField(Place),
+    /// The sheet has too few or too many value lines.
+    BadLineCount(Place),
+    /// The name stands on an earlier line of the tasks sheet too.
+    RepeatedTask(Place),
+    /// The answered name is not on the tasks sheet, or stands on an earlier line of the answer sheet too.
+    BadAnswer(Place),
+    /// The task is not on the answer sheet.
+    NoAnswer(Place),
     /// The table has no place for one more row.
     Full,
     /// The table has no row of that number.
@@ -62,6 +80,14 @@ impl Fault {
         ensures { result ≡ number_of self }
     {
         match self {
+            Fault::BadText(_) => 1,
+            Fault::BadNames(_) => 2,
+            Fault::BadFieldCount(_) => 3,
+            Fault::BadField(_) => 4,
+            Fault::BadLineCount(_) => 5,
+            Fault::RepeatedTask(_) => 6,
+            Fault::BadAnswer(_) => 7,
+            Fault::NoAnswer(_) => 8,
             Fault::Full => 9,
             Fault::NoRow => 10,
             Fault::BadRow(_) => 11,
@@ -80,6 +106,12 @@ impl Fault {
         ensures { result ≡ layer_of self }
     {
         match self {
+            Fault::BadText(_)
+            | Fault::BadNames(_)
+            | Fault::BadFieldCount(_)
+            | Fault::BadField(_)
+            | Fault::BadLineCount(_) => Layer::Sheet,
+            Fault::RepeatedTask(_) | Fault::BadAnswer(_) | Fault::NoAnswer(_) => Layer::Pair,
             Fault::Full | Fault::NoRow | Fault::BadRow(_) => Layer::Table,
             Fault::BadTest(_) => Layer::Board,
             Fault::Empty
@@ -96,7 +128,17 @@ impl Fault {
         ensures { result ≡ place_of self }
     {
         match self {
-            Fault::BadRow(place) | Fault::BadTest(place) | Fault::BadOrder(place) => place,
+            Fault::BadText(place)
+            | Fault::BadNames(place)
+            | Fault::BadFieldCount(place)
+            | Fault::BadField(place)
+            | Fault::BadLineCount(place)
+            | Fault::RepeatedTask(place)
+            | Fault::BadAnswer(place)
+            | Fault::NoAnswer(place)
+            | Fault::BadRow(place)
+            | Fault::BadTest(place)
+            | Fault::BadOrder(place) => place,
             Fault::Full
             | Fault::NoRow
             | Fault::Empty
@@ -114,6 +156,14 @@ impl fmt::Display for Fault {
 
     fn fmt<W: fmt::Write>(&self, f: &mut fmt::Formatter<W>) -> fmt::Result {
         f.write_str(match self {
+            Fault::BadText(_) => "the text is empty, too long, or has no line feed at its end",
+            Fault::BadNames(_) => "line 1 has not just the names of the sheet, each once",
+            Fault::BadFieldCount(_) => "the line has not as many fields as line 1",
+            Fault::BadField(_) => "the field has not the form of its kind",
+            Fault::BadLineCount(_) => "the sheet has too few or too many value lines",
+            Fault::RepeatedTask(_) => "the name stands on an earlier line too",
+            Fault::BadAnswer(_) => "the name is no task, or stands on an earlier line too",
+            Fault::NoAnswer(_) => "the task has no answer",
             Fault::Full => "the table is full",
             Fault::NoRow => "there is no such row",
             Fault::BadRow(_) => "the numbers make no row",

@@ -141,6 +141,14 @@ mod tests {
             line: 5,
             field: 3,
         };
+        is_fault(&rt, Fault::BadText(place), 1, Layer::Sheet, place);
+        is_fault(&rt, Fault::BadNames(place), 2, Layer::Sheet, place);
+        is_fault(&rt, Fault::BadFieldCount(place), 3, Layer::Sheet, place);
+        is_fault(&rt, Fault::BadField(place), 4, Layer::Sheet, place);
+        is_fault(&rt, Fault::BadLineCount(place), 5, Layer::Sheet, place);
+        is_fault(&rt, Fault::RepeatedTask(place), 6, Layer::Pair, place);
+        is_fault(&rt, Fault::BadAnswer(place), 7, Layer::Pair, place);
+        is_fault(&rt, Fault::NoAnswer(place), 8, Layer::Pair, place);
         is_fault(&rt, Fault::Full, 9, Layer::Table, Place::NOWHERE);
         is_fault(&rt, Fault::NoRow, 10, Layer::Table, Place::NOWHERE);
         is_fault(&rt, Fault::BadRow(place), 11, Layer::Table, place);

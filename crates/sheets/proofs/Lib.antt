@@ -1,0 +1,12 @@
+pub mod Columns
+pub mod Cuts
+pub mod Firsts
+pub mod Held
+pub mod Lined
+pub mod Ordered
+pub mod Outcomes
+pub mod Paired
+pub mod Parts
+pub mod Readings
+pub mod Standing
+pub mod Values

@@ -1,0 +1,41 @@
+-- What reading gives, from what its parts give.
+use Rattle.std.proofs.Common.{◌≡◌, ℕ, ◌≤◌, List, [], ◌∷◌, map, length, take, Result, Ok, Err, refl, sym, ap, subst, ◌∙◌, arith}
+use Rattle.std.specs.Result.{MatchResult, IsOk}
+use Rattle.table.specs.declared.fault.Fault.{Fault}
+use Rattle.table.specs.declared.fault.Fault.TheVariants.{BadNames}
+use Rattle.sheets.specs.declared.form.Column.{Column}
+use Rattle.sheets.specs.declared.form.Form.{Form}
+use Rattle.sheets.specs.declared.sheet.Sheet.{Sheet}
+use Rattle.sheets.specs.Forms.{columns_of, place}
+use Rattle.sheets.specs.Texts.{IsText, parts}
+use Rattle.sheets.specs.Reading.{IsSized, Heads, HasNames, Allowed, IsFirst, IsSheet}
+use Rattle.sheets.specs.Lines.{FirstFit, LinesMiss}
+use Rattle.sheets.specs.Sheets.{lines_of, ReadsText}
+use Rattle.sheets.proofs.Cuts.{ended, some_part, cut_is_text}
+use Rattle.sheets.proofs.Firsts.{seen, names_first, lines_first, sheet_from, sheet_misses_none}
+
+module _ (form : Form) (text : List ℕ) (body : List ℕ) (sized : IsSized text) (whole : text ≡ ended body) where
+  is_text : (first : List ℕ) (ls : List (List ℕ)) → parts 10 body ≡ first ∷ ls → IsText text (seen form first ls)
+  is_text first ls e = subst (λ t. IsText t (seen form first ls)) (sym whole) (subst (IsText (ended body)) (ap (map (parts 32)) e) (cut_is_text body))
+
+  -- line 1 has not the names
+  pub no_names : ((names : List ℕ) (rest : List (List ℕ)) → parts 10 body ≡ names ∷ rest → HasNames form (parts 32 names) → ⊥) → IsFirst form text (BadNames (place form 1 0))
+  no_names bad = go (parts 10 body) refl (some_part 10 body) where
+    go : (ps : List (List ℕ)) → parts 10 body ≡ ps → 1 ≤ length ps → IsFirst form text (BadNames (place form 1 0))
+    go [] e some = absurd (omega arith)
+    go (first ∷ ls) e some = names_first form text first ls sized (is_text first ls e) (bad first ls e)
+
+  -- the value lines are read
+  pub values_read : (first : List ℕ) (ls : List (List ℕ)) → parts 10 body ≡ first ∷ ls → (order : List Column) → Heads form (parts 32 first) (take (length (columns_of form)) order) → (r : Result Sheet Fault) → MatchResult r (λ s. (s.form ≡ form) × (s.order ≡ order) × (lines_of s ≡ ls) × FirstFit (take (length (columns_of form)) order) ls (length ls) × Allowed form (length ls)) (λ fault. LinesMiss form (take (length (columns_of form)) order) ls fault) → ReadsText form text r
+  values_read first ls e order heads (Ok s) h = (
+    seen form first ls,
+    take (length (columns_of form)) order,
+    sheet_from form text first ls sized (is_text first ls e) (take (length (columns_of form)) order) heads h.3 h.4,
+    (h.0, ap (λ (f : Form). take (length (columns_of f)) s.order) h.0 ∙ ap (take (length (columns_of form))) h.1, ap (map (parts 32)) h.2),
+  )
+  values_read first ls e order heads (Err fault) h = lines_first form text first ls sized (is_text first ls e) (take (length (columns_of form)) order) heads fault h
+
+-- what is a sheet is read
+pub sheet_is_read : (form : Form) (text : List ℕ) (r : Result Sheet Fault) → ReadsText form text r → (lines : List (List (List ℕ))) (order : List Column) → IsSheet form text lines order → IsOk r
+sheet_is_read form text (Ok s) h lines order sheet = refl
+sheet_is_read form text (Err fault) h lines order sheet = absurd (sheet_misses_none form text lines order sheet fault h.0)

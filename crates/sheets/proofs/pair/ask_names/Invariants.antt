@@ -1,0 +1,5 @@
+use Rattle.sheets.specs.Pairs.{IsNew, EachLine}
+use Rattle.sheets.proofs.pair.ask_names.Given as goal
+
+abbrev pub invariant-loop-i : goal.invariant-loop-i
+invariant-loop-i l = EachLine (IsNew l.tasks) l.i

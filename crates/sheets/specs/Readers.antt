@@ -1,0 +1,8 @@
+-- What a reader has still to hand out. Only contracts of private functions cite it.
+use Rattle.std.specs.Prelude.{ℕ, nat_le, List, [], length, drop, if◌then◌else◌}
+use Rattle.sheets.specs.declared.reader.Reader.{Reader}
+use Rattle.sheets.specs.Texts.{parts}
+
+-- the parts from the reader's place on; past the last part its place is one past the end
+abbrev pub left : Reader → List (List ℕ)
+left r = if nat_le r.at (length r.text.now) then parts r.mark (drop r.at r.text.now) else []

@@ -1,0 +1,93 @@
+-- What is asked of a text, which fault is the first, and what it is for a text to be a sheet.
+use Rattle.std.specs.Prelude.{◌≡◌, ℕ, ◌+◌, ◌-◌, ◌<◌, ◌≤◌, ◌⊎◌, ◌==◌, if◌then◌else◌, List, [], map, length, All, Contains}
+use Rattle.table.specs.declared.fault.Fault.{Fault}
+use Rattle.table.specs.declared.fault.Fault.TheVariants.{BadText, BadNames, BadFieldCount, BadField, BadLineCount}
+use Rattle.table.specs.Faults.{place_of}
+use Rattle.table.specs.Places.{nth}
+use Rattle.sheets.specs.declared.form.Column.{Column}
+use Rattle.sheets.specs.declared.form.Kind.{Kind}
+use Rattle.sheets.specs.declared.form.Kind.TheVariants.{Name, Number}
+use Rattle.sheets.specs.declared.form.Form.{Form}
+use Rattle.sheets.specs.Fields.{IsName, Writes}
+use Rattle.sheets.specs.Forms.{name_of, kind_of, columns_of, most_of, place}
+use Rattle.sheets.specs.Texts.{IsText}
+
+-- question 1: the text has 1 to 4,096 bytes, of which the last is a line feed
+abbrev pub IsSized : List ℕ → Type 0
+IsSized text = (1 ≤ length text) × (length text ≤ 4096) × (nth text (length text) 0 ≡ 10)
+
+-- Line 1 has the names of these columns, from left to right: they are as many as the form's, and each of the form's is among them, so each once.
+pub record Heads (form : Form) (names : List (List ℕ)) (order : List Column) : Type 0 where
+  pub named : names ≡ map name_of order
+  pub size : length order ≡ length (columns_of form)
+  pub each : All (Contains order) (columns_of form)
+
+-- question 2: line 1 has the names of the form's columns, each once, in some order
+abbrev pub HasNames : Form → List (List ℕ) → Type 0
+HasNames form names = (order : List Column) × Heads form names order
+
+-- a field has the form of its kind
+abbrev pub IsOfKind : Kind → List ℕ → Type 0
+IsOfKind Name field = IsName field
+IsOfKind Number field = (n : ℕ) × Writes field n
+
+-- question 5: a sheet of a form may have so many value lines
+abbrev pub Allowed : Form → ℕ → Type 0
+Allowed form n = (1 ≤ n) × (n ≤ most_of form)
+
+-- line k is a value line: any but line 1 is
+abbrev pub IsValueLine : List (List (List ℕ)) → ℕ → Type 0
+IsValueLine lines k = (2 ≤ k) × (k ≤ length lines)
+
+-- field j of line k; no byte where there is none
+abbrev pub field : List (List (List ℕ)) → ℕ → ℕ → List ℕ
+field lines k j = nth (nth lines k []) j []
+
+-- question 3: line k has as many fields as line 1
+abbrev pub SameCount : List (List (List ℕ)) → ℕ → Type 0
+SameCount lines k = length (nth lines k []) ≡ length (nth lines 1 [])
+
+-- question 4: field j of line k has the form of its kind, which is that of the column whose name stands over it in line 1
+abbrev pub Conforms : List (List (List ℕ)) → ℕ → ℕ → Type 0
+Conforms lines k j = (c : Column) → field lines 1 j ≡ name_of c → IsOfKind (kind_of c) (field lines k j)
+
+-- where question 5 is missed: line 1 if there is no value line, otherwise the first line that is too many
+abbrev pub line_at_fault : Form → List (List (List ℕ)) → ℕ
+line_at_fault form lines = if length lines == 1 then 1 else most_of form + 2
+
+-- in a text of these lines the fault's question, one of 2 to 5, is missed at the fault's place
+abbrev pub MissedIn : Form → List (List (List ℕ)) → Fault → Type 0
+MissedIn form lines (BadNames p) = (p ≡ place form 1 0) × (HasNames form (nth lines 1 []) → ⊥)
+MissedIn form lines (BadFieldCount p) = (k : ℕ) × (p ≡ place form k 0) × IsValueLine lines k × (SameCount lines k → ⊥)
+MissedIn form lines (BadField p) = (k j : ℕ) × (p ≡ place form k j) × IsValueLine lines k × (1 ≤ j) × (j ≤ length (nth lines k [])) × (Conforms lines k j → ⊥)
+MissedIn form lines (BadLineCount p) = (p ≡ place form (line_at_fault form lines) 0) × (Allowed form (length lines - 1) → ⊥)
+MissedIn form lines fault = ⊥
+
+-- the fault's question, one of 1 to 5, is missed at the fault's place
+abbrev pub Missed : Form → List ℕ → Fault → Type 0
+Missed form text (BadText p) = (p ≡ place form 0 0) × (IsSized text → ⊥)
+Missed form text fault = (lines : List (List (List ℕ))) × IsText text lines × MissedIn form lines fault
+
+-- 1 for question 5, which is asked when all lines are read; 0 for the others
+abbrev pub is_late : Fault → ℕ
+is_late (BadLineCount p) = 1
+is_late fault = 0
+
+-- One fault comes before another: question 5 is asked last; of the others that of the lower line is asked first, and in a line that of the whole line (field 0) before those of its fields, from left to right.
+abbrev pub Before : Fault → Fault → Type 0
+Before f g =
+    (is_late f < is_late g)
+    ⊎ ((is_late f ≡ is_late g) × (((place_of f).line < (place_of g).line) ⊎ (((place_of f).line ≡ (place_of g).line) × ((place_of f).field < (place_of g).field))))
+
+-- the fault is the first of a text: its question is missed at its place, and no fault that comes before is missed
+abbrev pub IsFirst : Form → List ℕ → Fault → Type 0
+IsFirst form text fault = Missed form text fault × ((other : Fault) → Before other fault → Missed form text other → ⊥)
+
+-- A text is a sheet of a form, of these lines and with its columns in this order: no question is missed.
+pub record IsSheet (form : Form) (text : List ℕ) (lines : List (List (List ℕ))) (order : List Column) : Type 0 where
+  pub sized : IsSized text
+  pub cut : IsText text lines
+  pub heads : Heads form (nth lines 1 []) order
+  pub counts : (k : ℕ) → IsValueLine lines k → SameCount lines k
+  pub kinds : (k j : ℕ) → IsValueLine lines k → 1 ≤ j → j ≤ length (nth lines k []) → Conforms lines k j
+  pub allowed : Allowed form (length lines - 1)

@@ -1,0 +1,50 @@
+-- What a sheet that was read has, and what it is to read one.
+use Rattle.std.specs.Prelude.{◌≡◌, ℕ, ◌+◌, ◌<◌, ◌≤◌, List, [], map, length, take, drop, Contains, Result, MatchResult}
+use Rattle.table.specs.declared.fault.Fault.{Fault}
+use Rattle.sheets.specs.declared.form.Column.{Column}
+use Rattle.sheets.specs.declared.form.Form.{Form}
+use Rattle.sheets.specs.declared.sheet.Sheet.{Sheet}
+use Rattle.std.specs.List.{position_or_len}
+use Rattle.std.specs.Str.{bytes_eq}
+use Rattle.table.specs.Places.{nth}
+use Rattle.sheets.specs.Forms.{name_of, kind_of, columns_of}
+use Rattle.sheets.specs.Texts.{parts}
+use Rattle.sheets.specs.Reading.{IsOfKind, IsSheet, IsFirst}
+
+-- the columns of a sheet, from left to right
+abbrev pub order_of : Sheet → List Column
+order_of s = take (length (columns_of s.form)) s.order
+
+-- the value lines of a sheet, as parts of the text
+abbrev pub lines_of : Sheet → List (List ℕ)
+lines_of s = map (λ line. line.now) (take s.len s.lines)
+
+-- the value lines of a sheet, as their fields: what stands between their spaces
+abbrev pub values_of : Sheet → List (List (List ℕ))
+values_of s = map (parts 32) (lines_of s)
+
+-- how many columns stand to the left of one; all of them where it is none of the sheet's
+abbrev pub left_of : Sheet → Column → ℕ
+left_of s c = position_or_len (λ d. bytes_eq (name_of d) (name_of c)) (order_of s)
+
+-- the k-th value line has a field under a column
+abbrev pub HasField : Sheet → ℕ → Column → Type 0
+HasField s k c = (1 ≤ k) × (k ≤ length (values_of s)) × (left_of s c < length (nth (values_of s) k []))
+
+-- the field under a column in the k-th value line; no byte where there is none
+abbrev pub field_of : Sheet → ℕ → Column → List ℕ
+field_of s k c = nth (nth (values_of s) k []) (left_of s c + 1) []
+
+-- each value line has a field under each of the form's columns, and the field has the form of its kind
+abbrev pub IsFull : Sheet → Type 0
+IsFull s = (k : ℕ) (c : Column) → 1 ≤ k → k ≤ length (values_of s) → Contains (columns_of s.form) c → HasField s k c × IsOfKind (kind_of c) (field_of s k c)
+
+-- the sheet has this form, its columns in this order, and all of these lines but line 1 as its value lines
+abbrev pub Shows : Form → List (List (List ℕ)) → List Column → Sheet → Type 0
+Shows form lines order s = (s.form ≡ form) × (order_of s ≡ order) × (values_of s ≡ drop 1 lines)
+
+-- reading a text: the sheet that it is, or the first fault
+abbrev pub ReadsText : Form → List ℕ → Result Sheet Fault → Type 0
+ReadsText form text r =
+    MatchResult r (λ s. (lines : List (List (List ℕ))) × (order : List Column) × IsSheet form text lines order × Shows form lines order s)
+    (λ fault. IsFirst form text fault)

@@ -1,0 +1,119 @@
+// The three forms of sheet: what differs among them is data.
+ghost use Rattle.std.specs.Prelude.{◌≡◌, ◌≢◌, MatchOption};
+ghost use Rattle.std.specs.Str.{bytes_eq};
+ghost use Rattle.sheets.specs.declared.form.Column.{Column};
+ghost use Rattle.sheets.specs.Forms.{name_of, kind_of, columns_of, sheet_of, most_of, place};
+
+use table::fault::Place;
+
+/// A column of a sheet.
+#[derive(Clone, Copy, PartialEq, Eq, Debug)]
+pub enum Column {
+    Processors,
+    Overhead,
+    Test,
+    Task,
+    Wcet,
+    Period,
+    Deadline,
+    Estimate,
+}
+
+/// What a field under a column is.
+#[derive(Clone, Copy)]
+pub(crate) enum Kind {
+    Name,
+    Number,
+}
+
+/// A form of sheet.
+#[derive(Clone, Copy, PartialEq, Eq, Debug)]
+pub enum Form {
+    Board,
+    Tasks,
+    Answer,
+}
+
+/// Room for the columns of a form.
+pub(crate) const ROOM: usize = 8;
+
+impl Column {
+    /// The column of this name.
+    pub(crate) fn named(name: &[u8]) -> Option<Column>
+        ensures { MatchOption result ((c : Column) → name.now ≢ name_of c) (λ c. name.now ≡ name_of c) }
+    {
+        match name {
+            b"processors" => Some(Column::Processors),
+            b"overhead" => Some(Column::Overhead),
+            b"test" => Some(Column::Test),
+            b"task" => Some(Column::Task),
+            b"wcet" => Some(Column::Wcet),
+            b"period" => Some(Column::Period),
+            b"deadline" => Some(Column::Deadline),
+            b"estimate" => Some(Column::Estimate),
+            _ => None,
+        }
+    }
+
+    /// Whether it is the other column: then it has its name.
+    pub(crate) fn is(self, other: Column) -> bool
+        ensures { result ≡ bytes_eq (name_of self) (name_of other) }
+    {
+        self == other
+    }
+
+    /// The kind of the fields under it.
+    pub(crate) fn kind(self) -> Kind
+        ensures { result ≡ kind_of self }
+    {
+        match self {
+            Column::Test | Column::Task => Kind::Name,
+            _ => Kind::Number,
+        }
+    }
+}
+
+impl Form {
+    /// The number of the sheet.
+    pub(crate) fn sheet(self) -> u32
+        ensures { result ≡ sheet_of self }
+    {
+        match self {
+            Form::Board => 1,
+            Form::Tasks => 2,
+            Form::Answer => 3,
+        }
+    }
+
+    /// Its columns.
+    pub(crate) fn columns(self) -> &'static [Column]
+        ensures { result.now ≡ columns_of self }
+    {
+        match self {
+            Form::Board => &[Column::Processors, Column::Overhead, Column::Test],
+            Form::Tasks => &[Column::Task, Column::Wcet, Column::Period, Column::Deadline],
+            Form::Answer => &[Column::Task, Column::Estimate],
+        }
+    }
+
+    /// The most value lines that it may have; the least is 1.
+    pub(crate) fn most(self) -> usize
+        ensures { result ≡ most_of self }
+    {
+        match self {
+            Form::Board => 1,
+            Form::Tasks | Form::Answer => 32,
+        }
+    }
+
+    /// A place on a sheet of the form.
+    pub(crate) fn place(self, line: u32, field: u32) -> Place
+        ensures { result ≡ place self line field }
+    {
+        Place {
+            sheet: self.sheet(),
+            line,
+            field,
+        }
+    }
+}

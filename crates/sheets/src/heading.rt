@@ -1,0 +1,53 @@
+// The columns that line 1 names.
+ghost use Rattle.std.specs.Prelude.{◌≡◌, ◌+◌, ◌≤◌, ◌↔◌, ◌∷◌, length, take, All, Contains, IsTrue, IfSome, MatchOption};
+ghost use Rattle.sheets.specs.Forms.{columns_of};
+ghost use Rattle.sheets.specs.Readers.{left};
+ghost use Rattle.sheets.specs.Texts.{parts};
+ghost use Rattle.sheets.specs.Reading.{Heads, HasNames};
+
+use crate::form::{Column, Form, ROOM};
+use crate::reader::Reader;
+
+// Whether the column is in the list.
+fn has(given: &[Column], column: Column) -> bool
+    ensures { IsTrue result ↔ Contains given.now column }
+{
+    given.contains(&column)
+}
+
+// Whether the form's columns are all of the list, and each is there.
+fn is_order(form: Form, given: &[Column]) -> bool
+    ensures { IsTrue result ↔ ((length given.now ≡ length (columns_of form)) × All (Contains given.now) (columns_of form)) }
+{
+    let columns = form.columns();
+    given.len() == columns.len() && columns.iter().all(|column| has(given, *column))
+}
+
+/// The columns from left to right, if they are the form's, each once; what stands past them is a filler.
+pub(crate) fn order_named(form: Form, names: &[u8]) -> Option<[Column; ROOM]>
+    requires { length names.now ≤ 4096 }
+    ensures { MatchOption result (HasNames form (parts 32 names.now) → ⊥) (λ order. Heads form (parts 32 names.now) (take (length (columns_of form)) order)) }
+{
+    let columns = form.columns();
+    let mut order = [Column::Task; ROOM];
+    let mut count = 0;
+    let mut fields = Reader::new(names, b' ');
+    while let Some(field) = fields.next() {
+        let column = Column::named(field.bytes)?;
+        if count == columns.len() {
+            return None;
+        }
+        order[count] = column;
+        count += 1;
+    }
+    is_order(form, &order[..count]).then_some(order)
+}
+
+/// The columns that the next line names, if they are the form's, each once.
+pub(crate) fn next_order(form: Form, lines: &mut Reader<'_>) -> Option<[Column; ROOM]>
+    ensures order { MatchOption result ((names : _) (rest : _) → left lines.old ≡ names ∷ rest → HasNames form (parts 32 names) → ⊥) (λ order. (names : _) × (left lines.old ≡ names ∷ left lines.new) × Heads form (parts 32 names) (take (length (columns_of form)) order)) }
+    ensures number { IfSome result (λ _. lines.new.number ≡ lines.old.number + 1) }
+{
+    let names = lines.next()?;
+    order_named(form, names.bytes)
+}
