@@ -1,5 +1,5 @@
-// Analyses an order of the worked table on 2 processors under each test, checks an answer, says whether
-// the range of all C to D is open, and prints it all.
+// Analyses an order of the worked table on 2 processors under each test, checks an answer, searches for an
+// order, says whether the range of all C to D is open, and prints it all.
 #![tactic(auto)]
 
 use bounds::analyse::analyse;
@@ -9,6 +9,8 @@ use orders::assign::assign;
 use orders::grow::grow;
 use orders::range::Range;
 use std::{array, fmt};
+use study::state::State;
+use study::study::Study;
 use table::row::Row;
 use table::rows::Table;
 use worked::worked_table;
@@ -17,6 +19,9 @@ use worked::worked_table;
 const ORDER: [usize; 3] = [1, 2, 3];
 
 const ESTIMATES: [u32; 3] = [2, 3, 5];
+
+/// How many numbers a list of 96 slots has.
+const LIST: usize = 6144;
 
 /// A task of the worked table, by its row's number. It prints as its name.
 #[derive(Clone, Copy)]
@@ -111,6 +116,29 @@ impl Worked {
         Ok(())
     }
 
+    // The verdict of a search with 96 slots in each list, and the order that it found, if any.
+    fn print_search(&self, rt: &impl Print) -> anyhow::Result<()> {
+        let name = self.name;
+        let mut study = Study::new();
+        for row in self.table.rows() {
+            study.add(row.wcet(), row.period(), row.deadline())?;
+        }
+        study.search(&self.test, &mut [0; LIST], &mut [0; LIST])?;
+        let (verdict, ranges, steps) = (word_of(study.state()), study.ledger(), study.steps());
+        println!(rt; "{name} {verdict} {ranges} {steps}")?;
+        let Some(finding) = study.state().finding() else {
+            return Ok(());
+        };
+        for (place, &task) in finding.order.iter().take(self.table.len()).enumerate() {
+            let estimate = task
+                .checked_sub(1)
+                .and_then(|row| finding.estimates.get(row).copied());
+            let level = place + 1;
+            println!(rt; "{name} {level} {} {}", Task(task), estimate.unwrap_or(0))?;
+        }
+        Ok(())
+    }
+
     fn print_standing(&self, rt: &impl Print) -> anyhow::Result<()> {
         let name = self.name;
         let rows = self.table.len();
@@ -133,6 +161,17 @@ impl Worked {
     }
 }
 
+// The word for where a study stands.
+fn word_of(state: State) -> &'static str {
+    match state {
+        State::Draft => "draft",
+        State::Running(_) => "running",
+        State::Found(_) => "found",
+        State::None => "none",
+        State::Stopped => "stopped",
+    }
+}
+
 // The range of all C to D.
 fn whole_range(rows: &[Row]) -> Range {
     Range {
@@ -150,6 +189,10 @@ fn run(rt: &impl Print) -> anyhow::Result<()> {
     println!(rt; "test answer task bound")?;
     for worked in &all {
         worked.print_check(rt)?;
+    }
+    println!(rt; "test verdict ranges steps, then test level task estimate")?;
+    for worked in &all {
+        worked.print_search(rt)?;
     }
     println!(rt; "test range task low high")?;
     for worked in &all {
