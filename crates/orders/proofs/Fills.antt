@@ -25,8 +25,8 @@ placed_none tasks n long = drop_all n (take n tasks) (omega (arith, length-take-
 
 module _ {T : Type 0} (answer : T → List Row → ℕ → List Bool → List ℕ → Option ℕ) (t : T) (rows : List Row) (r : Range) where
   -- a candidate by what was read
-  pub candidate_read : (left : List Bool) (k : ℕ) (a : Option ℕ) → 1 ≤ k → get_or left (k - 1) false ≡ true → a ≡ answer t rows k (set left (k - 1) false) r.lows → candidate answer t rows r left k ≡ at_most a (get_or r.highs (k - 1) 0)
-  candidate_read left k a low y is = rw (nth_at left k false low, y, put_at left k false low, nth_at r.highs k 0 low, ← is) refl
+  pub candidate_read : (left : List Bool) (k : ℕ) (a : Option ℕ) → 1 ≤ k → get_or left (k - 1) false ≡ true → a ≡ answer t rows k (put left k false) r.lows → candidate answer t rows r left k ≡ at_most a (get_or r.highs (k - 1) 0)
+  candidate_read left k a low y is = rw (nth_at left k false low, y, nth_at r.highs k 0 low, ← is) refl
 
   pub candidate_placed : (left : List Bool) (k : ℕ) → 1 ≤ k → get_or left (k - 1) false ≡ false → candidate answer t rows r left k ≡ false
   candidate_placed left k low z = rw (nth_at left k false low, z) refl

@@ -22,6 +22,20 @@ halved n a b l h le =
     let next : 20 - n ≡ suc (20 - (n + 1)) = omega arith in
     omega (arith, h, le, ap (λ j. 2 ^ j) next ∙ pow-succ' 2 (20 - (n + 1)))
 
+-- the same after three rounds that may leave all: what is left after a step of a round, moved or not
+pub narrowed : (round room step left : ℕ) → round < 23 → room < 2 ^ (20 - (round - 3)) → 1 ≤ step → step ≤ room → (3 ≤ round → (room ≤ 2 * step) × (2 * step ≤ room + 1)) → (left ≡ room - step) ⊎ (left ≡ step - 1) → left < 2 ^ (20 - (round + 1 - 3))
+narrowed round room step left l few some le halves one = elim (cases_lt round 3) [
+  | inl early ↦
+      let now : 20 - (round - 3) ≡ 20 - (round + 1 - 3) = omega arith in
+      let less : left ≤ room = elim one [ inl a ↦ omega arith | inr b ↦ omega arith ] in
+      omega (arith, ap (λ n. 2 ^ n) now)
+  | inr late ↦
+      let half = halves late in
+      let less : 2 * left ≤ room = elim one [ inl a ↦ omega (arith, half.0) | inr b ↦ omega (arith, half.1) ] in
+      let on : 20 - (round - 3 + 1) ≡ 20 - (round + 1 - 3) = omega arith in
+      subst (λ n. left < 2 ^ n) on (halved (round - 3) room left (omega arith) few less)
+]
+
 -- An end of row k has been moved out, and there is this much room left to move it: any farther leaves the range open.
 pub record MovedOut {T : Type 0} (answer : T → List Row → ℕ → List Bool → List ℕ → Option ℕ) (t : T) (rows : List Row) (end : End) (r : Range) (k room : ℕ) (q : Range) : Type 0 where
   by : ℕ

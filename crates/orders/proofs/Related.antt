@@ -143,9 +143,9 @@ module _ {T : Type 0} {answer : T → List Row → ℕ → List Bool → List �
   own_estimates order o holds =
       elim (descend answer t rows order o (length rows) (omega arith)) [
         | inl d ↦
-          let bounds = d.2 in
-          let bounded = subst (Bounded answer t rows order bounds) (sym o.size) d.3.bounded in
-          (bounds, record { size = d.3.long; within = bounds_within rows few order o bounds laws t bounded }, own_bounds order bounds o d.3.long bounded)
+            let bounds = d.2 in
+            let bounded = subst (Bounded answer t rows order bounds) (sym o.size) d.3.bounded in
+            (bounds, record { size = d.3.long; within = bounds_within rows few order o bounds laws t bounded }, own_bounds order bounds o d.3.long bounded)
         | inr late ↦ absurd (holds_not_late answer t rows order holds.0 late.0 late.1 holds.1 late.2)
       ]
 

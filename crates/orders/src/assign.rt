@@ -1,5 +1,6 @@
 // The assigner: Audsley's method for a range.
-ghost use Rattle.std.specs.Prelude.{◌≡◌, ◌≤◌, ◌↔◌, length, IsTrue};
+ghost use Rattle.std.specs.Prelude.{◌≡◌, ◌+◌, ◌<◌, ◌≤◌, ◌↔◌, length, false, IsTrue};
+ghost use Rattle.table.specs.Places.{put};
 ghost use Rattle.table.specs.Rows.{view};
 ghost use Rattle.bounds.specs.Responses.{least_from};
 ghost use Rattle.orders.specs.Assigner.{candidate, full, Assigns, Settles, FillsLowest};
@@ -41,6 +42,22 @@ struct Assigner<'a, T> {
 }
 
 impl<T: Test> Assigner<'_, T> {
+    // A task's answer below all the other unplaced tasks.
+    fn answer(&self, left: &[bool; 32], k: usize) -> Option<u32>
+        requires { (1 ≤ k) × (k ≤ 32) }
+        ensures { result ≡ T.answer self.now.test.now (view self.now.table.now) k (put left.now k false) self.now.range.now.lows }
+    {
+        let mut above = *left;
+        above[k - 1] = false;
+        let question = Question {
+            table: self.table,
+            task: k,
+            above: &above,
+            estimates: &self.range.lows,
+        };
+        self.test.ask(&question)
+    }
+
     // Whether an unplaced task passes below all the others. A type for a number from 1 to 32 would be no plainer.
     fn passes(&self, left: &[bool; 32], k: usize) -> bool
         requires { (1 ≤ k) × (k ≤ 32) }
@@ -50,16 +67,7 @@ impl<T: Test> Assigner<'_, T> {
         if !left[k - 1] {
             return false;
         }
-        let mut above = *left;
-        above[k - 1] = false;
-        let question = Question {
-            table: self.table,
-            task: k,
-            above: &above,
-            estimates: &self.range.lows,
-        };
-        self.test
-            .ask(&question)
+        self.answer(left, k)
             .is_some_and(|bound| bound <= self.range.highs[k - 1])
     }
 
@@ -71,6 +79,34 @@ impl<T: Test> Assigner<'_, T> {
     {
         (1..=self.table.len()).find(|&k| self.passes(left, k))
     }
+}
+
+// What a row's high must be for its task to be placed once no other task passes, or none if it is late then. The
+// lower levels are filled by the other tasks as far as they pass.
+pub(crate) fn high_wanted<T: Test>(
+    test: &T,
+    table: &Table<Row>,
+    range: &Range,
+    place: usize,
+) -> Option<u32>
+    requires { place < length (view table.now) }
+{
+    let mut others = *range;
+    // No answer is 0, so the task itself does not pass.
+    others.highs[place] = 0;
+    let assigner = Assigner {
+        test,
+        table,
+        range: &others,
+    };
+    let mut left = all_tasks(table.len());
+    for _level in 0..table.len() {
+        let Some(task) = assigner.lowest_passing(&left) else {
+            break;
+        };
+        left[task - 1] = false;
+    }
+    assigner.answer(&left, place + 1)
 }
 
 // Test and table come apart here, in `grow`, `analyse` and `check`: a caller would make a struct for one call.

@@ -1,11 +1,11 @@
 // The ends of a closed range, moved out while it stays closed.
-ghost use Rattle.std.specs.Prelude.{◌≡◌, ◌+◌, ◌<◌, ◌≤◌, length, IfSome, IfNone};
+ghost use Rattle.std.specs.Prelude.{◌≡◌, ◌+◌, ◌*◌, ◌<◌, ◌≤◌, length, IfSome, IfNone};
 ghost use Rattle.table.specs.Rows.{view};
 ghost use Rattle.orders.specs.Growth.{moved as moved_out, reach as reach_of, EndGrown};
 ghost use Rattle.orders.specs.Ranges.{Within, Closed};
 
 use super::ClosedRange;
-use crate::assign::{assign, is_range};
+use crate::assign::{assign, high_wanted, is_range};
 use crate::end::End;
 use crate::range::Range;
 use bounds::test::Test;
@@ -54,8 +54,35 @@ impl<'a, T: Test> ClosedRange<'a, T> {
         range
     }
 
-    // The range with an end of the row at a place moved out as far as it stays closed: the room
-    // left to move it is halved.
+    // How far an end is tried to be moved out in a round, with this room left: first all of it. A high is then tried at
+    // the last value at which its task is not placed, and at the next one. After these rounds the room is halved.
+    fn step_in(&self, round: u32, end: End, place: usize, room: u32) -> u32
+        requires place { place < length (view self.now.table.now) }
+        requires room { 1 ≤ room }
+        ensures within { (1 ≤ result) × (result ≤ room) }
+        ensures halves { 3 ≤ round → (room ≤ 2 * result) × (2 * result ≤ room + 1) }
+    {
+        match (round, end) {
+            (0, _) => room,
+            (1, End::High) => self.last_closed(place).max(1).min(room),
+            (2, End::High) => 1,
+            _ => room.div_ceil(2),
+        }
+    }
+
+    // How far a high may be moved out if it is this task alone that keeps the range closed.
+    fn last_closed(&self, place: usize) -> u32
+        requires { place < length (view self.now.table.now) }
+    {
+        match high_wanted(self.test, self.table, &self.range, place) {
+            Some(high) => high
+                .saturating_sub(1)
+                .saturating_sub(self.range.highs[place]),
+            None => 0,
+        }
+    }
+
+    // The range with an end of the row at a place moved out as far as it stays closed.
     pub(crate) fn grow_end(self, end: End, place: usize) -> Self
         requires { place < length (view self.table.now) }
         ensures test { result.test.now ≡ self.entry.test.now }
@@ -65,12 +92,12 @@ impl<'a, T: Test> ClosedRange<'a, T> {
     {
         let mut grown = self;
         let mut room = grown.reach(end, place);
-        // A room is below 2^20, and each round leaves at most half of it.
-        for _round in 0..20u32 {
+        // A room is below 2^20, and each round from the fourth on leaves at most half of it.
+        for round in 0..23u32 {
             if room == 0 {
                 return grown;
             }
-            let step = room.div_ceil(2);
+            let step = grown.step_in(round, end, place, room);
             let wider = grown.moved(end, place, step);
             match ClosedRange::new(grown.test, grown.table, wider) {
                 Some(wider) => {

@@ -12,5 +12,5 @@ returns-then-not-left-k g c =
 pub returns : goal.returns
 returns g c =
     let s = c.args.self.now in
-    let is : c.is_some_and.result ≡ at_most c.ask.result (get_or s.range.now.highs (c.args.k - 1) 0) = search rules in
-    is ∙ sym (candidate_read g.T.Test.answer s.test.now (view s.table.now) s.range.now c.args.left.now c.args.k _ c.requires.0 c.if-not-left-k.false c.ask.ensures)
+    let is : c.is_some_and.result ≡ at_most c.answer.result (get_or s.range.now.highs (c.args.k - 1) 0) = search rules in
+    is ∙ sym (candidate_read g.T.Test.answer s.test.now (view s.table.now) s.range.now c.args.left.now c.args.k _ c.requires.0 c.if-not-left-k.false c.answer.ensures)

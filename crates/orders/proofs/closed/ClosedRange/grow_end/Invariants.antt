@@ -9,4 +9,4 @@ invariant-loop-round g l =
     let s = l.fn.self in
     (l.grown.test.now ≡ s.test.now) × (l.grown.table.now ≡ s.table.now)
     × MovedOut g.T.Test.answer s.test.now (view s.table.now) l.end s.range (l.place + 1) l.room l.grown.range
-    × (l.room < 2 ^ (20 - l._round))
+    × (l.room < 2 ^ (20 - (l.round - 3)))
