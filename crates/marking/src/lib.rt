@@ -1,3 +1,4 @@
 #![tactic(auto)]
 
+pub mod render;
 pub mod report;

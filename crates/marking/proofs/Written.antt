@@ -1,0 +1,60 @@
+-- Lines as they are written, part by part.
+use Rattle.std.proofs.Common.{◌≡◌, ℕ, ◌+◌, ◌<◌, List, [], ◌∷◌, ◌++◌, length, get_or, take, refl, ap, sym, ◌∙◌, append_assoc, append-nil, flat_map, drop, ◌-◌, ◌≤◌, arith}
+use Rattle.std.proofs.lemmas.List.{flat_map_more, take_more, take_rest, take_all}
+use Rattle.std.proofs.lemmas.List.Concat.{flat_map-append}
+use Rattle.std.specs.Borrow.{Bor}
+use Rattle.sheets.specs.Texts.{line_of, text_of}
+use Rattle.marking.specs.Rendered.{texts_of}
+
+-- fields with a space before each
+abbrev pub spaced : List (Bor (List ℕ)) → List ℕ
+spaced fields = flat_map (λ field. 32 ∷ field.now) fields
+
+-- a line is its first field, and the others with a space before each
+line-spaced : (first : Bor (List ℕ)) (others : List (Bor (List ℕ))) → line_of (first.now ∷ texts_of others) ≡ first.now ++ spaced others
+line-spaced first [] = sym (append-nil first.now)
+line-spaced first (second ∷ others) = ap (λ l. first.now ++ 32 ∷ l) (line-spaced second others)
+
+-- the fields after the first, as a part of the list
+abbrev pub others_of : List (Bor (List ℕ)) → List (Bor (List ℕ))
+others_of fields = take (length fields - 1) (drop 1 fields)
+
+others-are : (first : Bor (List ℕ)) (others : List (Bor (List ℕ))) → others_of (first ∷ others) ≡ others
+others-are first others = take_rest (first ∷ others) 1
+
+-- a line without a field, and one whose fields are all written
+pub line-empty : (fields : List (Bor (List ℕ))) → length fields < 1 → line_of (texts_of fields) ≡ []
+line-empty [] none = refl
+line-empty (first ∷ others) none = absurd (omega (arith, none))
+
+line-whole : (fields : List (Bor (List ℕ))) (i : ℕ) (d : Bor (List ℕ)) → 1 ≤ length fields → length (others_of fields) ≤ i → (get_or fields 0 d).now ++ spaced (take i (others_of fields)) ≡ line_of (texts_of fields)
+line-whole [] i d some all = absurd (omega (arith, some))
+line-whole (first ∷ others) i d some all =
+    ap (λ l. first.now ++ spaced l) (take_all i (others_of (first ∷ others)) all ∙ others-are first others)
+    ∙ sym (line-spaced first others)
+
+pub line-written : (out before more : List ℕ) (fields : List (Bor (List ℕ))) (i : ℕ) (d : Bor (List ℕ)) → 1 ≤ length fields → length (others_of fields) ≤ i → before ≡ out ++ (get_or fields 0 d).now → more ≡ before ++ spaced (take i (others_of fields)) → more ≡ out ++ line_of (texts_of fields)
+line-written out before more fields i d some all e f =
+    f
+    ∙ ap (λ l. l ++ spaced (take i (others_of fields))) e
+    ∙ append_assoc out (get_or fields 0 d).now (spaced (take i (others_of fields)))
+    ∙ ap (λ l. out ++ l) (line-whole fields i d some all)
+
+-- one field more
+pub spaced-more : (out before more : List ℕ) (fields : List (Bor (List ℕ))) (i : ℕ) (d : Bor (List ℕ)) → i < length fields → before ≡ out ++ spaced (take i fields) → more ≡ before ++ 32 ∷ [] → more ++ (get_or fields i d).now ≡ out ++ spaced (take (i + 1) fields)
+spaced-more out before more fields i d h e f =
+    let field = get_or fields i d in
+    ap (λ l. l ++ field.now) f
+    ∙ append_assoc before (32 ∷ []) field.now
+    ∙ ap (λ l. l ++ 32 ∷ field.now) e
+    ∙ flat_map_more (λ f. 32 ∷ f.now) out (take i fields) field
+    ∙ ap (λ l. out ++ spaced l) (sym (take_more fields i d h))
+
+-- one line more
+pub text-more : (out more : List ℕ) (lines : List (List (List ℕ))) (line : List (List ℕ)) → out ≡ text_of lines → more ≡ out ++ line_of line ++ 10 ∷ [] → more ≡ text_of (lines ++ line ∷ [])
+text-more out more lines line before e =
+    e
+    ∙ ap (λ l. (l ++ line_of line) ++ 10 ∷ []) before
+    ∙ append_assoc (text_of lines) (line_of line) (10 ∷ [])
+    ∙ ap (λ l. text_of lines ++ l) (sym (append-nil (line_of line ++ 10 ∷ [])))
+    ∙ sym (flat_map-append (λ fields. line_of fields ++ 10 ∷ []) lines (line ∷ []))
