@@ -1,10 +1,14 @@
 -- Lines as they are written, part by part.
-use Rattle.std.proofs.Common.{◌≡◌, ℕ, ◌+◌, ◌<◌, List, [], ◌∷◌, ◌++◌, length, get_or, take, refl, ap, sym, ◌∙◌, append_assoc, append-nil, flat_map, drop, ◌-◌, ◌≤◌, arith}
+use Rattle.std.proofs.Common.{◌≡◌, ℕ, ◌+◌, ◌<◌, List, [], ◌∷◌, ◌++◌, length, get_or, take, refl, ap, sym, ◌∙◌, append_assoc, append-nil, flat_map, drop, ◌-◌, ◌≤◌, arith, add-one, decimal}
 use Rattle.std.proofs.lemmas.List.{flat_map_more, take_more, take_rest, take_all}
 use Rattle.std.proofs.lemmas.List.Concat.{flat_map-append}
 use Rattle.std.specs.Borrow.{Bor}
 use Rattle.sheets.specs.Texts.{line_of, text_of}
-use Rattle.marking.specs.Rendered.{texts_of}
+use Rattle.sheets.proofs.Parts.{get_or-map}
+use Rattle.table.specs.Places.{nth}
+use Rattle.table.proofs.Placed.{nth_next}
+use Rattle.marking.specs.declared.report.Report.{Report}
+use Rattle.marking.specs.Rendered.{texts_of, task_on, level_line, level_lines}
 
 -- fields with a space before each
 abbrev pub spaced : List (Bor (List ℕ)) → List ℕ
@@ -51,10 +55,37 @@ spaced-more out before more fields i d h e f =
     ∙ ap (λ l. out ++ spaced l) (sym (take_more fields i d h))
 
 -- one line more
+pub text-one : (lines : List (List (List ℕ))) (line : List (List ℕ)) → text_of lines ++ (line_of line ++ 10 ∷ []) ≡ text_of (lines ++ line ∷ [])
+text-one lines line =
+    ap (λ l. text_of lines ++ l) (sym (append-nil (line_of line ++ 10 ∷ [])))
+    ∙ sym (flat_map-append (λ fields. line_of fields ++ 10 ∷ []) lines (line ∷ []))
+
 pub text-more : (out more : List ℕ) (lines : List (List (List ℕ))) (line : List (List ℕ)) → out ≡ text_of lines → more ≡ out ++ line_of line ++ 10 ∷ [] → more ≡ text_of (lines ++ line ∷ [])
 text-more out more lines line before e =
     e
     ∙ ap (λ l. (l ++ line_of line) ++ 10 ∷ []) before
     ∙ append_assoc (text_of lines) (line_of line) (10 ∷ [])
-    ∙ ap (λ l. text_of lines ++ l) (sym (append-nil (line_of line ++ 10 ∷ [])))
-    ∙ sym (flat_map-append (λ fields. line_of fields ++ 10 ∷ []) lines (line ∷ []))
+    ∙ text-one lines line
+
+-- the name of the task in a place
+task-at : (r : Report) (place : ℕ) → task_on r (place + 1) ≡ (get_or r.tasks place (record { ref_ptr = (0, 0); now = [] })).now
+task-at r place = nth_next (texts_of r.tasks) place [] ∙ get_or-map (λ part. part.now) r.tasks place (record { ref_ptr = (0, 0); now = [] })
+
+lines-next : (r : Report) (n : ℕ) → level_lines r (n + 1) ≡ level_lines r n ++ level_line r (n + 1) ∷ []
+unfolding level_lines
+lines-next r n = rw (add-one n) refl
+
+-- one level more
+pub levels-more : (out before more : List ℕ) (r : Report) (n : ℕ) (level estimate : List ℕ) → level ≡ decimal (n + 1) → estimate ≡ decimal (get_or r.estimates n 0) → before ≡ out ++ text_of (level_lines r n) → more ≡ before ++ line_of (level ∷ (get_or r.tasks n (record { ref_ptr = (0, 0); now = [] })).now ∷ estimate ∷ []) ++ 10 ∷ [] → more ≡ out ++ text_of (level_lines r (n + 1))
+levels-more out before more r n level estimate is_level is_estimate e f =
+    let line : level ∷ (get_or r.tasks n (record { ref_ptr = (0, 0); now = [] })).now ∷ estimate ∷ [] ≡ level_line r (n + 1)
+        = ap (λ l. l ∷ (get_or r.tasks n (record { ref_ptr = (0, 0); now = [] })).now ∷ estimate ∷ []) is_level
+            ∙ ap (λ l. decimal (n + 1) ∷ l ∷ estimate ∷ []) (sym (task-at r n))
+            ∙ ap (λ l. decimal (n + 1) ∷ task_on r (n + 1) ∷ l ∷ []) (is_estimate ∙ ap decimal (sym (nth_next r.estimates n 0))) in
+    f
+    ∙ ap (λ l. l ++ line_of (level ∷ (get_or r.tasks n (record { ref_ptr = (0, 0); now = [] })).now ∷ estimate ∷ []) ++ 10 ∷ []) e
+    ∙ ap (λ l. out ++ text_of (level_lines r n) ++ line_of l ++ 10 ∷ []) line
+    ∙ append_assoc (out ++ text_of (level_lines r n)) (line_of (level_line r (n + 1))) (10 ∷ [])
+    ∙ append_assoc out (text_of (level_lines r n)) (line_of (level_line r (n + 1)) ++ 10 ∷ [])
+    ∙ ap (λ l. out ++ l) (text-one (level_lines r n) (level_line r (n + 1)))
+    ∙ ap (λ l. out ++ text_of l) (sym (lines-next r n))
