@@ -5,7 +5,6 @@ use Rattle.std.proofs.lemmas.List.Concat.{flat_map-append}
 use Rattle.std.specs.Borrow.{Bor}
 use Rattle.sheets.specs.Texts.{line_of, text_of}
 use Rattle.sheets.proofs.Parts.{get_or-map}
-use Rattle.table.specs.Places.{nth}
 use Rattle.table.proofs.Placed.{nth_next}
 use Rattle.marking.specs.declared.report.Report.{Report}
 use Rattle.marking.specs.Rendered.{texts_of, task_on, level_line, level_lines}
@@ -79,9 +78,9 @@ lines-next r n = rw (add-one n) refl
 pub levels-more : (out before more : List ℕ) (r : Report) (n : ℕ) (level estimate : List ℕ) → level ≡ decimal (n + 1) → estimate ≡ decimal (get_or r.estimates n 0) → before ≡ out ++ text_of (level_lines r n) → more ≡ before ++ line_of (level ∷ (get_or r.tasks n (record { ref_ptr = (0, 0); now = [] })).now ∷ estimate ∷ []) ++ 10 ∷ [] → more ≡ out ++ text_of (level_lines r (n + 1))
 levels-more out before more r n level estimate is_level is_estimate e f =
     let line : level ∷ (get_or r.tasks n (record { ref_ptr = (0, 0); now = [] })).now ∷ estimate ∷ [] ≡ level_line r (n + 1)
-        = ap (λ l. l ∷ (get_or r.tasks n (record { ref_ptr = (0, 0); now = [] })).now ∷ estimate ∷ []) is_level
-            ∙ ap (λ l. decimal (n + 1) ∷ l ∷ estimate ∷ []) (sym (task-at r n))
-            ∙ ap (λ l. decimal (n + 1) ∷ task_on r (n + 1) ∷ l ∷ []) (is_estimate ∙ ap decimal (sym (nth_next r.estimates n 0))) in
+    = ap (λ l. l ∷ (get_or r.tasks n (record { ref_ptr = (0, 0); now = [] })).now ∷ estimate ∷ []) is_level
+    ∙ ap (λ l. decimal (n + 1) ∷ l ∷ estimate ∷ []) (sym (task-at r n))
+    ∙ ap (λ l. decimal (n + 1) ∷ task_on r (n + 1) ∷ l ∷ []) (is_estimate ∙ ap decimal (sym (nth_next r.estimates n 0))) in
     f
     ∙ ap (λ l. l ++ line_of (level ∷ (get_or r.tasks n (record { ref_ptr = (0, 0); now = [] })).now ∷ estimate ∷ []) ++ 10 ∷ []) e
     ∙ ap (λ l. out ++ text_of (level_lines r n) ++ line_of l ++ 10 ∷ []) line
@@ -89,3 +88,12 @@ levels-more out before more r n level estimate is_level is_estimate e f =
     ∙ append_assoc out (text_of (level_lines r n)) (line_of (level_line r (n + 1)) ++ 10 ∷ [])
     ∙ ap (λ l. out ++ l) (text-one (level_lines r n) (level_line r (n + 1)))
     ∙ ap (λ l. out ++ text_of l) (sym (lines-next r n))
+
+-- three lines, then some, then two
+pub report-whole : (first second third : List (List ℕ)) (levels : List (List (List ℕ))) (fourth fifth : List (List ℕ)) {o0 o1 o2 o3 o4 o5 o6 : List ℕ} → o0 ≡ [] → o1 ≡ o0 ++ line_of first ++ 10 ∷ [] → o2 ≡ o1 ++ line_of second ++ 10 ∷ [] → o3 ≡ o2 ++ line_of third ++ 10 ∷ [] → o4 ≡ o3 ++ text_of levels → o5 ≡ o4 ++ line_of fourth ++ 10 ∷ [] → o6 ≡ o5 ++ line_of fifth ++ 10 ∷ [] → o6 ≡ text_of (first ∷ second ∷ third ∷ (levels ++ fourth ∷ fifth ∷ []))
+report-whole first second third levels fourth fifth {o0} {o1} {o2} {o3} {o4} {o5} {o6} e0 e1 e2 e3 e4 e5 e6 =
+    let top = first ∷ second ∷ third ∷ [] in
+    let above = text-more o2 o3 (first ∷ second ∷ []) third (text-more o1 o2 (first ∷ []) second (text-more o0 o1 [] first e0 e1) e2) e3 in
+    let levelled = e4 ∙ ap (λ l. l ++ text_of levels) above ∙ sym (flat_map-append (λ fields. line_of fields ++ 10 ∷ []) top levels) in
+    text-more o5 o6 (top ++ levels ++ fourth ∷ []) fifth (text-more o4 o5 (top ++ levels) fourth levelled e5) e6
+    ∙ ap (λ l. text_of (top ++ l)) (append_assoc levels (fourth ∷ []) (fifth ∷ []))

@@ -6,7 +6,6 @@ use Rattle.table.specs.Faults.{number_of, place_of}
 use Rattle.table.specs.Places.{nth}
 use Rattle.sheets.specs.declared.form.Column.TheVariants.{Task, Estimate}
 use Rattle.sheets.specs.Forms.{name_of}
-use Rattle.sheets.specs.Texts.{text_of}
 use Rattle.marking.specs.declared.report.Verdict.{Verdict}
 use Rattle.marking.specs.declared.report.Verdict.TheVariants.{Found, None as NoOrder, Stopped}
 use Rattle.marking.specs.declared.report.Outcome.{Outcome}

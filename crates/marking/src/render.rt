@@ -88,7 +88,10 @@ pub fn render_report(alloc: Global, report: &Report<'_>) -> Result<Vec<u8>, Allo
     let steps = steps.format(report.steps).as_bytes();
     push_line(&mut out, &[b"verdict", b"ranges", b"steps"])?;
     push_line(&mut out, &[word(report.verdict), ranges, steps])?;
-    push_line(&mut out, &[b"level", Column::Task.name(), Column::Estimate.name()])?;
+    push_line(
+        &mut out,
+        &[b"level", Column::Task.name(), Column::Estimate.name()],
+    )?;
     push_levels(&mut out, report)?;
     push_line(&mut out, &[b"answer", Column::Task.name(), b"bound"])?;
     push_outcome(&mut out, &report.outcome)?;

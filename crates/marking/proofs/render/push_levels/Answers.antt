@@ -1,5 +1,4 @@
-use Rattle.std.proofs.Common.{◌≡◌, [], ◌∷◌, ◌++◌, ap, sym, append-nil, ◌∙◌}
-use Rattle.sheets.specs.Texts.{text_of}
+use Rattle.std.proofs.Common.{sym, append-nil, ◌∙◌}
 use Rattle.marking.specs.Rendered.{level_lines}
 use Rattle.marking.proofs.Written.{levels-more}
 use Rattle.marking.proofs.render.push_levels.Goals as goal
