@@ -40,9 +40,9 @@ unfoldable pub level_lines : Report → ℕ → List (List (List ℕ))
 level_lines r zero = []
 level_lines r (suc n) = level_lines r n ++ level_line r (suc n) ∷ []
 
--- how many levels are shown: those that the report says, as far as it has places for them
-abbrev pub levels_of : Report → ℕ
-levels_of r = min r.levels (length r.tasks)
+-- how many levels are shown: as many as the report says, and no more than it has places for
+abbrev pub level_count : Report → ℕ
+level_count r = min r.levels (length r.tasks)
 
 -- the line of the answer: that it passes, or the first task that fails, with its bound
 abbrev pub outcome_line : Outcome → List (List ℕ)
@@ -55,7 +55,7 @@ report_lines r =
     (codes "verdict" ∷ codes "ranges" ∷ codes "steps" ∷ [])
     ∷ (word_of r.verdict ∷ decimal r.ranges ∷ decimal r.steps ∷ [])
     ∷ (codes "level" ∷ name_of Task ∷ name_of Estimate ∷ [])
-    ∷ (level_lines r (levels_of r)
+    ∷ (level_lines r (level_count r)
     ++ (codes "answer" ∷ name_of Task ∷ codes "bound" ∷ [])
     ∷ outcome_line r.outcome
     ∷ [])

@@ -1,7 +1,7 @@
 // The bytes that are printed of a report and of a fault.
 ghost use Rattle.std.specs.Prelude.{◌≡◌, [], ◌∷◌, ◌++◌, OnOk, IfOk};
 ghost use Rattle.sheets.specs.Texts.{line_of, text_of};
-ghost use Rattle.marking.specs.Rendered.{texts_of, word_of, bound_text, levels_of, level_lines, outcome_line, report_lines, fault_lines};
+ghost use Rattle.marking.specs.Rendered.{texts_of, word_of, bound_text, level_count, level_lines, outcome_line, report_lines, fault_lines};
 
 use crate::report::{Outcome, Report, Verdict};
 use itoa::Buffer;
@@ -37,7 +37,7 @@ fn push_line(out: &mut Vec<u8>, fields: &[&[u8]]) -> Result<(), AllocError>
 
 /// Adds the lines of the levels.
 fn push_levels(out: &mut Vec<u8>, report: &Report<'_>) -> Result<(), AllocError>
-    ensures { OnOk result (out.new.items ≡ out.old.items ++ text_of (level_lines report.now (levels_of report.now))) }
+    ensures { OnOk result (out.new.items ≡ out.old.items ++ text_of (level_lines report.now (level_count report.now))) }
 {
     for place in 0..report.levels.min(report.tasks.len()) {
         let mut level = Buffer::new();
