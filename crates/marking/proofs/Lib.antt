@@ -1,2 +1,3 @@
 pub mod Full
+pub mod Rowed
 pub mod Suited

@@ -1,5 +1,7 @@
 #![tactic(auto)]
 
 mod board;
+mod claims;
 mod fields;
 pub mod report;
+mod rows;
