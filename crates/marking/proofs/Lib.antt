@@ -1,3 +1,4 @@
+pub mod Claimed
 pub mod Full
 pub mod Rowed
 pub mod Suited

@@ -1,5 +1,5 @@
 // The estimates of an answer.
-ghost use Rattle.std.specs.Prelude.{◌≡◌, Ok, length, MatchResult};
+ghost use Rattle.std.specs.Prelude.{◌≡◌, ◌≤◌, ◌↔◌, IsTrue, Ok, length, MatchResult};
 ghost use Rattle.sheets.specs.declared.form.Form.TheVariants.{Tasks, Answer};
 ghost use Rattle.sheets.specs.Pairs.{count_of, EachLine, EachRowOnce, Pairs};
 ghost use Rattle.sheets.specs.Sheets.{IsFull};
@@ -10,6 +10,13 @@ use crate::fields::{field, number};
 use sheets::form::Column;
 use sheets::sheet::Sheet;
 use table::fault::Fault;
+
+// Whether an estimate lies from a wcet to a deadline.
+fn lies(estimate: u32, wcet: u32, deadline: u32) -> bool
+    ensures { IsTrue result ↔ ((wcet ≤ estimate) × (estimate ≤ deadline)) }
+{
+    (wcet..=deadline).contains(&estimate)
+}
 
 /// The estimates by row, where `order` has the rows that the answer names, line by line.
 pub(crate) fn estimates_of(
@@ -28,7 +35,7 @@ pub(crate) fn estimates_of(
         let wcet = number(tasks, row, Column::Wcet);
         let deadline = number(tasks, row, Column::Deadline);
         let estimate = number(answer, i + 1, Column::Estimate);
-        if !(wcet..=deadline).contains(&estimate) {
+        if !lies(estimate, wcet, deadline) {
             let place = field(answer, i + 1, Column::Estimate).place;
             return Err(Fault::BadOrder(place));
         }
