@@ -1,5 +1,5 @@
 -- What a report says.
-use Rattle.std.specs.Prelude.{◌≡◌, ℕ, ◌+◌, ◌≤◌, Bool, List, [], map, length, take, Some, None, Option}
+use Rattle.std.specs.Prelude.{◌≡◌, ℕ, ◌+◌, ◌<◌, ◌≤◌, Bool, List, [], map, length, take, Some, None, Option}
 use Rattle.table.specs.declared.row.Row.{Row}
 use Rattle.table.specs.Places.{nth}
 use Rattle.table.specs.Rows.{row, view, Of}
@@ -13,11 +13,18 @@ use Rattle.study.specs.declared.study.Study.{Study}
 use Rattle.study.specs.declared.finding.Finding.{Finding}
 use Rattle.study.specs.declared.state.State.{State}
 use Rattle.study.specs.declared.state.State.TheVariants as state
-use Rattle.study.specs.Moments.{moment}
-use Rattle.study.specs.Histories.{Tally, History}
+use Rattle.study.specs.declared.room.Room.{Room}
+use Rattle.study.specs.Moments.{Moment, moment}
+use Rattle.study.specs.Begins.{HasRoom}
+use Rattle.study.specs.Histories.{Tally, History, Means}
+use Rattle.study.specs.Searches.{Searched}
 use Rattle.sheets.specs.declared.form.Column.TheVariants.{Wcet, Period, Deadline, Estimate}
 use Rattle.sheets.specs.declared.sheet.Sheet.{Sheet}
 use Rattle.sheets.specs.Pairs.{count_of, task_of, EachLine}
+use Rattle.marking.specs.declared.report.Report.{Report}
+use Rattle.marking.specs.declared.report.Verdict.TheVariants as verdict
+use Rattle.marking.specs.declared.report.Outcome.{Outcome}
+use Rattle.marking.specs.declared.report.Outcome.TheVariants as outcome
 use Rattle.marking.specs.Questions.{number_of}
 
 -- what a board's test answers: what the test of its name answers, and V added
@@ -36,3 +43,45 @@ HasHistory s = (t : Overhead NamedTest) (ledger pending : List ℕ) → (c : Tal
 -- in each value line of the answer stands the estimate of the row in the order's place
 abbrev pub EstimatesOf : Sheet → List ℕ → List ℕ → ℕ → Type 0
 EstimatesOf answer order estimates n = EachLine (λ k. nth estimates (nth order k 0) 0 ≡ number_of answer k Estimate) n
+
+-- both lists have 96 slots
+abbrev pub slots : Room
+slots = record { ledger = 96; pending = 96 }
+
+-- A search under a test led from one study to another: with 96 slots in each list, to the first verdict.
+pub record SearchedTo (t : Overhead NamedTest) (before after : Study) : Type 0 where
+  pub first : Moment
+  pub last : Moment
+  pub begins : first.study ≡ before
+  pub ends : last.study ≡ after
+  pub room : HasRoom slots first
+  pub searched : Searched answer_of t slots first last
+  pub means : Means answer_of t last
+  pub few : after.steps ≤ 97
+
+-- the names of a report's levels, as bytes
+abbrev pub names_of : Report → List (List ℕ)
+names_of r = map (λ name. name.now) r.tasks
+
+-- Level by level, the first n, these are the names of a found order's tasks and their estimates.
+pub record LevelsOf (tasks : Sheet) (f : Finding) (n : ℕ) (names : List (List ℕ)) (estimates : List ℕ) : Type 0 where
+  pub named : EachLine (λ k. nth names k [] ≡ task_of tasks (nth f.order k 0)) n
+  pub held : EachLine (λ k. nth estimates k 0 ≡ nth f.estimates (nth f.order k 0) 0) n
+
+-- past the last level stand no byte and 0
+abbrev pub BlankPast : ℕ → List (List ℕ) → List ℕ → Type 0
+BlankPast n names estimates = (k : ℕ) → n < k → (nth names k [] ≡ []) × (nth estimates k 0 ≡ 0)
+
+-- the report shows a state: found with its order, none or stopped
+abbrev pub ShowsState : Sheet → State → Report → Type 0
+ShowsState tasks (state.Found f) r = (r.verdict ≡ verdict.Found) × (r.levels ≡ count_of tasks) × LevelsOf tasks f r.levels (names_of r) r.estimates
+ShowsState tasks state.None r = (r.verdict ≡ verdict.None) × (r.levels ≡ 0)
+ShowsState tasks state.Stopped r = (r.verdict ≡ verdict.Stopped) × (r.levels ≡ 0)
+ShowsState tasks state.Draft r = ⊥
+ShowsState tasks (state.Running room) r = ⊥
+
+-- what came of the answer: it passes where no task misses its estimate, or the first one that does is named, with its own answer
+abbrev pub OutcomeOf : Sheet → Option Miss → Outcome → Type 0
+OutcomeOf tasks None outcome.Passes = Unit {0}
+OutcomeOf tasks (Some miss) (outcome.Fails task bound) = (task.now ≡ task_of tasks miss.task) × (bound ≡ miss.bound)
+OutcomeOf tasks miss outcome = ⊥

@@ -5,3 +5,4 @@ mod claims;
 mod fields;
 pub mod report;
 mod rows;
+mod shown;
