@@ -13,7 +13,10 @@ use Rattle.sheets.specs.declared.sheet.Sheet.{Sheet}
 use Rattle.sheets.specs.Fields.{value, Writes}
 use Rattle.sheets.specs.Forms.{place}
 use Rattle.sheets.specs.Sheets.{left_of, HasField, field_of}
-use Rattle.sheets.specs.Pairs.{count_of, task_of, HasTaskAt, FirstLine}
+use Rattle.sheets.specs.declared.form.Form.{Form}
+use Rattle.sheets.specs.declared.form.Form.TheVariants.{Board, Tasks, Answer}
+use Rattle.sheets.specs.Reading.{IsFirst, IsSheet}
+use Rattle.sheets.specs.Pairs.{count_of, task_of, IsNew, Answers, IsAnswered, HasTaskAt, EachLine, FirstLine, PairMisses}
 
 -- the number under a column in the k-th value line
 abbrev pub number_of : Sheet → ℕ → Column → ℕ
@@ -63,3 +66,24 @@ HasEstimate tasks answer k =
 abbrev pub EstimateMisses : Sheet → Sheet → Fault → Type 0
 EstimateMisses tasks answer fault =
     (k : ℕ) × (fault ≡ BadOrder (place answer.form (k + 1) (left_of answer Estimate + 1))) × FirstLine (HasEstimate tasks answer) (count_of answer) k
+
+-- a text is a sheet of a form
+abbrev pub IsForm : Form → List ℕ → Type 0
+IsForm form text = (lines : List (List (List ℕ))) × (order : List Column) × IsSheet form text lines order
+
+-- The fault is the first of three texts, where one of them is no sheet: those of the board come first, then those of the tasks.
+pub data TextsMiss (board tasks answer : List ℕ) (fault : Fault) : Type 0 where
+  in_board : IsFirst Board board fault → TextsMiss board tasks answer fault
+  in_tasks : IsForm Board board → IsFirst Tasks tasks fault → TextsMiss board tasks answer fault
+  in_answer : IsForm Board board → IsForm Tasks tasks → IsFirst Answer answer fault → TextsMiss board tasks answer fault
+
+-- no question of a pair is missed
+abbrev pub IsPaired : Sheet → Sheet → Type 0
+IsPaired tasks answer = EachLine (IsNew tasks) (count_of tasks) × EachLine (Answers tasks answer) (count_of answer) × EachLine (IsAnswered tasks answer) (count_of tasks)
+
+-- The fault is the first of three sheets: the board's test is asked first, then the pair, the rows and the estimates.
+pub data SheetsMiss (board tasks answer : Sheet) (fault : Fault) : Type 0 where
+  by_test : TestMisses board fault → SheetsMiss board tasks answer fault
+  by_pair : HasTest board → PairMisses tasks answer fault → SheetsMiss board tasks answer fault
+  by_row : HasTest board → IsPaired tasks answer → RowMisses tasks fault → SheetsMiss board tasks answer fault
+  by_estimate : HasTest board → IsPaired tasks answer → EachLine (HasRow tasks) (count_of tasks) → EstimateMisses tasks answer fault → SheetsMiss board tasks answer fault

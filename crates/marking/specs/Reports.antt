@@ -1,5 +1,5 @@
 -- What a report says.
-use Rattle.std.specs.Prelude.{◌≡◌, ℕ, ◌+◌, ◌<◌, ◌≤◌, Bool, List, [], map, length, take, Some, None, Option}
+use Rattle.std.specs.Prelude.{◌≡◌, ℕ, ◌+◌, ◌<◌, ◌≤◌, Bool, List, [], map, length, take, Some, None, Ok, Option, MatchOption}
 use Rattle.table.specs.declared.row.Row.{Row}
 use Rattle.table.specs.Places.{nth}
 use Rattle.table.specs.Rows.{row, view, Of}
@@ -14,18 +14,21 @@ use Rattle.study.specs.declared.finding.Finding.{Finding}
 use Rattle.study.specs.declared.state.State.{State}
 use Rattle.study.specs.declared.state.State.TheVariants as state
 use Rattle.study.specs.declared.room.Room.{Room}
+use Rattle.study.specs.Counts.{finding_in}
 use Rattle.study.specs.Moments.{Moment, moment}
 use Rattle.study.specs.Begins.{HasRoom}
 use Rattle.study.specs.Histories.{Tally, History, Means}
 use Rattle.study.specs.Searches.{Searched}
 use Rattle.sheets.specs.declared.form.Column.TheVariants.{Wcet, Period, Deadline, Estimate}
 use Rattle.sheets.specs.declared.sheet.Sheet.{Sheet}
-use Rattle.sheets.specs.Pairs.{count_of, task_of, EachLine}
+use Rattle.sheets.specs.Pairs.{count_of, task_of, HasTaskAt, EachLine, EachRowOnce, Pairs}
 use Rattle.marking.specs.declared.report.Report.{Report}
+use Rattle.marking.specs.declared.report.Verdict.{Verdict}
 use Rattle.marking.specs.declared.report.Verdict.TheVariants as verdict
 use Rattle.marking.specs.declared.report.Outcome.{Outcome}
 use Rattle.marking.specs.declared.report.Outcome.TheVariants as outcome
-use Rattle.marking.specs.Questions.{number_of}
+use Rattle.marking.specs.declared.case.Case.{Case}
+use Rattle.marking.specs.Questions.{number_of, IsTest, HasRow, HasEstimate}
 
 -- what a board's test answers: what the test of its name answers, and V added
 abbrev pub answer_of : Overhead NamedTest → List Row → ℕ → List Bool → List ℕ → Option ℕ
@@ -72,16 +75,55 @@ pub record LevelsOf (tasks : Sheet) (f : Finding) (n : ℕ) (names : List (List 
 abbrev pub BlankPast : ℕ → List (List ℕ) → List ℕ → Type 0
 BlankPast n names estimates = (k : ℕ) → n < k → (nth names k [] ≡ []) × (nth estimates k 0 ≡ 0)
 
--- the report shows a state: found with its order, none or stopped
-abbrev pub ShowsState : Sheet → State → Report → Type 0
-ShowsState tasks (state.Found f) r = (r.verdict ≡ verdict.Found) × (r.levels ≡ count_of tasks) × LevelsOf tasks f r.levels (names_of r) r.estimates
-ShowsState tasks state.None r = (r.verdict ≡ verdict.None) × (r.levels ≡ 0)
-ShowsState tasks state.Stopped r = (r.verdict ≡ verdict.Stopped) × (r.levels ≡ 0)
-ShowsState tasks state.Draft r = ⊥
-ShowsState tasks (state.Running room) r = ⊥
+-- how a state is said: found, none, or stopped; a search leaves no other
+abbrev pub verdict_of : State → Verdict
+verdict_of (state.Found f) = verdict.Found
+verdict_of state.None = verdict.None
+verdict_of state.Stopped = verdict.Stopped
+verdict_of state.Draft = verdict.Stopped
+verdict_of (state.Running room) = verdict.Stopped
+
+-- the levels of a state: those of the order that is found, one for each row, and otherwise none
+abbrev pub LevelsIn : Sheet → State → ℕ → List (List ℕ) → List ℕ → Type 0
+LevelsIn tasks s n names estimates = MatchOption (finding_in s) (n ≡ 0) (λ f. (n ≡ count_of tasks) × LevelsOf tasks f n names estimates) × BlankPast n names estimates
+
+-- the report shows a study once it is searched: its verdict, its counts and its levels
+pub record ShowsStudy (tasks : Sheet) (s : Study) (r : Report) : Type 0 where
+  pub verdict : r.verdict ≡ verdict_of s.state
+  pub ranges : r.ranges ≡ s.ledger
+  pub steps : r.steps ≡ s.steps
+  pub levels : LevelsIn tasks s.state r.levels (names_of r) r.estimates
 
 -- what came of the answer: it passes where no task misses its estimate, or the first one that does is named, with its own answer
 abbrev pub OutcomeOf : Sheet → Option Miss → Outcome → Type 0
 OutcomeOf tasks None outcome.Passes = Unit {0}
 OutcomeOf tasks (Some miss) (outcome.Fails task bound) = (task.now ≡ task_of tasks miss.task) × (bound ≡ miss.bound)
 OutcomeOf tasks miss outcome = ⊥
+
+-- The order and the estimates of an answer: the order has in its k-th place the row of the task that the k-th value line names, and that row's estimate is the line's.
+pub record AnswerOf (tasks answer : Sheet) (order estimates : List ℕ) : Type 0 where
+  pub size : length order ≡ count_of tasks
+  pub named : EachLine (λ k. HasTaskAt tasks (task_of answer k) (nth order k 0)) (count_of answer)
+  pub many : length estimates ≡ count_of tasks
+  pub held : EstimatesOf answer order estimates (count_of answer)
+
+-- the outcome is that of the answer, checked under a test
+pub record ChecksAnswer (t : Overhead NamedTest) (rows : List Row) (tasks answer : Sheet) (o : Outcome) : Type 0 where
+  pub order : List ℕ
+  pub estimates : List ℕ
+  pub is : AnswerOf tasks answer order estimates
+  pub miss : Option Miss
+  pub first : FirstMiss answer_of t rows order estimates miss
+  pub outcome : OutcomeOf tasks miss o
+
+-- the values of three sheets: the board's test, a study of the rows, and the answer's order and estimates, by row with more places than rows
+pub record CaseOf (board tasks answer : Sheet) (case : Case) : Type 0 where
+  pub test : IsTest board case.test
+  pub pairs : Pairs tasks answer (Ok case.order)
+  pub once : EachRowOnce tasks answer case.order
+  pub lines : EachLine (HasRow tasks) (count_of tasks)
+  pub rows : RowsOf tasks (count_of tasks) (view case.study.table)
+  pub history : HasHistory case.study
+  pub lie : EachLine (HasEstimate tasks answer) (count_of answer)
+  pub held : EstimatesOf answer case.order case.estimates (count_of answer)
+  pub size : length case.estimates ≡ 32

@@ -1,8 +1,10 @@
 #![tactic(auto)]
 
 mod board;
+mod case;
 mod claims;
 mod fields;
 pub mod report;
 mod rows;
 mod shown;
+mod trio;
