@@ -1,3 +1,4 @@
+pub mod Answered
 pub mod Claimed
 pub mod Ended
 pub mod Full

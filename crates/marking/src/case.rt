@@ -1,14 +1,20 @@
 // What three sheets give: a test, a study, an order and estimates.
-ghost use Rattle.std.specs.Prelude.{◌≡◌, MatchResult};
+ghost use Rattle.std.specs.Prelude.{◌≡◌, ◌≤◌, Ok, MatchResult};
+ghost use Rattle.table.specs.Rows.{view};
+ghost use Rattle.sheets.specs.declared.sheet.Sheet.{Sheet as OneSheet};
 ghost use Rattle.sheets.specs.declared.form.Form.TheVariants.{Board, Tasks, Answer as Given};
 ghost use Rattle.sheets.specs.Pairs.{count_of};
 ghost use Rattle.sheets.specs.Sheets.{IsFull};
 ghost use Rattle.marking.specs.Questions.{SheetsMiss};
-ghost use Rattle.marking.specs.Reports.{CaseOf};
+ghost use Rattle.marking.specs.declared.report.Outcome.{Outcome as OneOutcome};
+ghost use Rattle.marking.specs.Reports.{CaseOf, ChecksAnswer};
 
 use crate::board::test_of;
 use crate::claims::estimates_of;
+use crate::report::Outcome;
 use crate::rows::study_of;
+use crate::shown::outcome_of;
+use bounds::check::check;
 use bounds::named::NamedTest;
 use bounds::overhead::Overhead;
 use sheets::pair::pair;
@@ -43,5 +49,17 @@ impl Case {
             order,
             estimates,
         })
+    }
+
+    /// What came of the answer. The check is not refused: the answer is an order, with an estimate for each row.
+    pub(crate) fn outcome<'a>(&self, tasks: &Sheet<'a>, answer: &Sheet<'_>) -> Result<Outcome<'a>, Fault>
+        requires tasks { (tasks.now.form ≡ Tasks) × IsFull tasks.now × (1 ≤ count_of tasks.now) }
+        requires case { (board : OneSheet) × CaseOf board tasks.now answer.now self.now }
+        ensures { (o : OneOutcome) × (result ≡ Ok o) × ChecksAnswer self.now.test (view self.now.study.table) tasks.now answer.now o }
+    {
+        let order = &self.order[..answer.len()];
+        let estimates = &self.estimates[..tasks.len()];
+        let miss = check(&self.test, self.study.table(), order, estimates)?;
+        Ok(outcome_of(tasks, miss))
     }
 }
