@@ -21,7 +21,7 @@ use Rattle.marking.specs.Reports.{answer_of, RowsOf, EstimatesOf, AnswerOf, Chec
 use Rattle.marking.specs.declared.report.Outcome.{Outcome}
 use Rattle.marking.proofs.Claimed.{one_row, row_here}
 
-nth_taken : (n : ℕ) (xs : List ℕ) (k : ℕ) → 1 ≤ k → k ≤ n → nth (take n xs) k 0 ≡ nth xs k 0
+pub nth_taken : (n : ℕ) (xs : List ℕ) (k : ℕ) → 1 ≤ k → k ≤ n → nth (take n xs) k 0 ≡ nth xs k 0
 nth_taken n xs k low high = nth_at (take n xs) k 0 low ∙ get_or-take n xs (k - 1) 0 (omega arith) ∙ sym (nth_at xs k 0 low)
 
 module _ (tasks answer : Sheet) (order estimates : List ℕ) (pairs : Pairs tasks answer (Ok order)) (once : EachRowOnce tasks answer order) (few : count_of answer ≤ 32) (size : length estimates ≡ 32) (lie : EachLine (HasEstimate tasks answer) (count_of answer)) (held : EstimatesOf answer order estimates (count_of answer)) where

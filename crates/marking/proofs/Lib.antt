@@ -2,6 +2,8 @@ pub mod Answered
 pub mod Claimed
 pub mod Ended
 pub mod Full
+pub mod Counted
 pub mod Levelled
 pub mod Rowed
+pub mod Stays
 pub mod Suited

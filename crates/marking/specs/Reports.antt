@@ -1,13 +1,14 @@
 -- What a report says.
-use Rattle.std.specs.Prelude.{◌≡◌, ℕ, ◌+◌, ◌<◌, ◌≤◌, Bool, List, [], map, length, take, Some, None, Ok, Option, MatchOption}
+use Rattle.std.specs.Prelude.{◌≡◌, ℕ, ◌+◌, ◌<◌, ◌≤◌, Bool, List, [], map, length, take, Some, None, Ok, ◌⊎◌, Option, Result, MatchOption, MatchResult}
 use Rattle.table.specs.declared.row.Row.{Row}
+use Rattle.table.specs.declared.fault.Fault.{Fault}
 use Rattle.table.specs.Places.{nth}
 use Rattle.table.specs.Rows.{row, view, Of}
 use Rattle.bounds.specs.declared.overhead.Overhead.{Overhead}
 use Rattle.bounds.specs.declared.named.NamedTest.{NamedTest}
 use Rattle.bounds.specs.declared.miss.Miss.{Miss}
 use Rattle.bounds.specs.Named.{named_answer}
-use Rattle.bounds.specs.Orders.{Order, FirstMiss}
+use Rattle.bounds.specs.Orders.{Order, Holds, HasLate, FirstMiss}
 use Rattle.bounds.specs.Overheads.{over}
 use Rattle.study.specs.declared.study.Study.{Study}
 use Rattle.study.specs.declared.finding.Finding.{Finding}
@@ -21,6 +22,8 @@ use Rattle.study.specs.Histories.{Tally, History, Means}
 use Rattle.study.specs.Searches.{Searched}
 use Rattle.sheets.specs.declared.form.Column.TheVariants.{Wcet, Period, Deadline, Estimate}
 use Rattle.sheets.specs.declared.sheet.Sheet.{Sheet}
+use Rattle.sheets.specs.declared.form.Form.TheVariants.{Board, Tasks, Answer}
+use Rattle.sheets.specs.Sheets.{ReadsText}
 use Rattle.sheets.specs.Pairs.{count_of, task_of, HasTaskAt, EachLine, EachRowOnce, Pairs}
 use Rattle.marking.specs.declared.report.Report.{Report}
 use Rattle.marking.specs.declared.report.Verdict.{Verdict}
@@ -28,7 +31,7 @@ use Rattle.marking.specs.declared.report.Verdict.TheVariants as verdict
 use Rattle.marking.specs.declared.report.Outcome.{Outcome}
 use Rattle.marking.specs.declared.report.Outcome.TheVariants as outcome
 use Rattle.marking.specs.declared.case.Case.{Case}
-use Rattle.marking.specs.Questions.{number_of, IsTest, HasRow, HasEstimate}
+use Rattle.marking.specs.Questions.{number_of, HasTest, IsTest, IsPaired, HasRow, HasEstimate, TextsMiss, SheetsMiss}
 
 -- what a board's test answers: what the test of its name answers, and V added
 abbrev pub answer_of : Overhead NamedTest → List Row → ℕ → List Bool → List ℕ → Option ℕ
@@ -118,6 +121,7 @@ pub record ChecksAnswer (t : Overhead NamedTest) (rows : List Row) (tasks answer
 
 -- the values of three sheets: the board's test, a study of the rows, and the answer's order and estimates, by row with more places than rows
 pub record CaseOf (board tasks answer : Sheet) (case : Case) : Type 0 where
+  pub has_test : HasTest board
   pub test : IsTest board case.test
   pub pairs : Pairs tasks answer (Ok case.order)
   pub once : EachRowOnce tasks answer case.order
@@ -127,3 +131,49 @@ pub record CaseOf (board tasks answer : Sheet) (case : Case) : Type 0 where
   pub lie : EachLine (HasEstimate tasks answer) (count_of answer)
   pub held : EstimatesOf answer case.order case.estimates (count_of answer)
   pub size : length case.estimates ≡ 32
+
+-- What a verdict, its counts and its levels promise of these rows under a test.
+pub record Promises (t : Overhead NamedTest) (tasks : Sheet) (rows : List Row) (r : Report) : Type 0 where
+  -- found: the levels show an order of the rows, and it holds
+  pub found : r.verdict ≡ verdict.Found → (order : List ℕ) × Order (length rows) order × Holds answer_of t rows order × (r.levels ≡ length rows) × EachLine (λ k. nth (names_of r) k [] ≡ task_of tasks (nth order k 0)) r.levels
+  -- none: every order of the rows has a late task
+  pub none : r.verdict ≡ verdict.None → (order : List ℕ) → Order (length rows) order → HasLate answer_of t rows order
+  -- the steps are as many as the ledger ranges and one more, and the most that 96 slots allow
+  pub counted : r.steps ≡ r.ranges + 1
+  pub few : r.steps ≤ 97
+
+-- The report on two sheets under a test: what a search of the sheet's rows shows, and what came of the answer.
+pub record Reports (t : Overhead NamedTest) (tasks answer : Sheet) (r : Report) : Type 0 where
+  pub before : Study
+  pub after : Study
+  pub rows : RowsOf tasks (count_of tasks) (view before.table)
+  pub searched : SearchedTo t before after
+  pub shows : ShowsStudy tasks after r
+  pub promises : Promises t tasks (view before.table) r
+  pub checks : ChecksAnswer t (view before.table) tasks answer r.outcome
+
+-- three texts are sheets, and these are what was read
+abbrev pub Read : List ℕ → List ℕ → List ℕ → Sheet → Sheet → Sheet → Type 0
+Read x y z board tasks answer = ReadsText Board x (Ok board) × ReadsText Tasks y (Ok tasks) × ReadsText Answer z (Ok answer)
+
+-- Three texts have a report: each is a sheet, no question is missed, and the report is that on the sheets under the board's test.
+pub record Marked (x y z : List ℕ) (r : Report) : Type 0 where
+  pub board : Sheet
+  pub tasks : Sheet
+  pub answer : Sheet
+  pub read : Read x y z board tasks answer
+  pub has_test : HasTest board
+  pub paired : IsPaired tasks answer
+  pub lines : EachLine (HasRow tasks) (count_of tasks)
+  pub lie : EachLine (HasEstimate tasks answer) (count_of answer)
+  pub test : Overhead NamedTest
+  pub is_test : IsTest board test
+  pub reports : Reports test tasks answer r
+
+-- three texts have a fault: the first of the texts, or the first of the sheets that they are
+abbrev pub Refused : List ℕ → List ℕ → List ℕ → Fault → Type 0
+Refused x y z fault = TextsMiss x y z fault ⊎ ((board tasks answer : Sheet) × Read x y z board tasks answer × SheetsMiss board tasks answer fault)
+
+-- marking three texts: a report, or the first fault
+abbrev pub Marks : List ℕ → List ℕ → List ℕ → Result Report Fault → Type 0
+Marks x y z r = MatchResult r (Marked x y z) (Refused x y z)

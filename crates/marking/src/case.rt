@@ -7,13 +7,14 @@ ghost use Rattle.sheets.specs.Pairs.{count_of};
 ghost use Rattle.sheets.specs.Sheets.{IsFull};
 ghost use Rattle.marking.specs.Questions.{SheetsMiss};
 ghost use Rattle.marking.specs.declared.report.Outcome.{Outcome as OneOutcome};
-ghost use Rattle.marking.specs.Reports.{CaseOf, ChecksAnswer};
+ghost use Rattle.marking.specs.declared.report.Report.{Report as OneReport};
+ghost use Rattle.marking.specs.Reports.{CaseOf, ChecksAnswer, Reports};
 
 use crate::board::test_of;
 use crate::claims::estimates_of;
-use crate::report::Outcome;
+use crate::report::{Outcome, Report};
 use crate::rows::study_of;
-use crate::shown::outcome_of;
+use crate::shown::{outcome_of, report_of, search};
 use bounds::check::check;
 use bounds::named::NamedTest;
 use bounds::overhead::Overhead;
@@ -61,5 +62,16 @@ impl Case {
         let estimates = &self.estimates[..tasks.len()];
         let miss = check(&self.test, self.study.table(), order, estimates)?;
         Ok(outcome_of(tasks, miss))
+    }
+
+    /// Searches the rows, and reports that and what came of the answer.
+    pub(crate) fn report<'a>(mut self, tasks: &Sheet<'a>, answer: &Sheet<'_>) -> Result<Report<'a>, Fault>
+        requires tasks { (tasks.now.form ≡ Tasks) × IsFull tasks.now × (1 ≤ count_of tasks.now) }
+        requires case { (board : OneSheet) × CaseOf board tasks.now answer.now self }
+        ensures { (r : OneReport) × (result ≡ Ok r) × Reports self.test tasks.now answer.now r }
+    {
+        let outcome = self.outcome(tasks, answer)?;
+        search(&self.test, &mut self.study)?;
+        Ok(report_of(tasks, &self.study, outcome))
     }
 }

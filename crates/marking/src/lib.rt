@@ -4,6 +4,7 @@ mod board;
 mod case;
 mod claims;
 mod fields;
+pub mod mark;
 pub mod report;
 mod rows;
 mod shown;
