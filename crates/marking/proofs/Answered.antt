@@ -1,12 +1,10 @@
 -- The order and the estimates of an answer, and what a check of them gives.
-use Rattle.std.proofs.Common.{◌≡◌, ℕ, zero, suc, ◌+◌, ◌-◌, ◌<◌, ◌≤◌, List, length, get_or, take, Ok, Err, Some, None, Option, Result, refl, sym, ap, subst, ◌∙◌, inl, inr, arith}
+use Rattle.std.proofs.Common.{◌≡◌, ℕ, ◌+◌, ◌-◌, ◌≤◌, List, length, take, Ok, Err, Some, None, Option, Result, sym, ap, subst, ◌∙◌, arith}
 use Rattle.std.specs.Option.{IfSome}
-use Rattle.std.proofs.lemmas.Bool.{cases_lt}
 use Rattle.std.proofs.lemmas.List.{length-take, get_or-take}
 use Rattle.table.specs.declared.row.Row.{Row}
 use Rattle.table.specs.declared.fault.Fault.{Fault}
 use Rattle.table.specs.Places.{nth}
-use Rattle.table.specs.Rows.{row}
 use Rattle.table.proofs.Asked.{ok_err}
 use Rattle.table.proofs.Placed.{nth_at, nth_next}
 use Rattle.bounds.specs.declared.overhead.Overhead.{Overhead}

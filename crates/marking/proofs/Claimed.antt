@@ -1,7 +1,6 @@
 -- The estimates of an answer, by row.
 use Rattle.std.proofs.Common.{◌≡◌, ℕ, ◌+◌, ◌-◌, ◌<◌, ◌≤◌, List, length, get_or, set, Ok, sym, ap, subst, ◌∙◌, inl, inr, arith}
 use Rattle.std.proofs.lemmas.Bool.{cases_lt}
-use Rattle.std.proofs.lemmas.List.{length-set}
 use Rattle.table.specs.Places.{nth}
 use Rattle.table.proofs.Placed.{nth_next}
 use Rattle.sheets.specs.declared.form.Column.TheVariants.{Wcet, Deadline, Estimate}
@@ -44,7 +43,7 @@ module _ (tasks answer : Sheet) (order : List ℕ) (pairs : Pairs tasks answer (
         let at : row - 1 + 1 ≡ row = omega (arith, row_here.0) in
         let after = set estimates (row - 1) e in
         each_more (λ k. nth after (nth order k 0) 0 ≡ number_of answer k Estimate) i
-            (λ k low high.
-            let named = pairs.3.named k low (omega arith) in
-            set_there estimates (row - 1) e (nth order k 0) named.0 (λ is. let same = once.1 k (i + 1) low (omega arith) (omega arith) (omega arith) (is ∙ at ∙ sym (nth_next order i 0)) in omega (arith, same)) ∙ held k low high)
-            (ap (λ r. nth after r 0) (nth_next order i 0 ∙ sym at) ∙ set_here estimates (row - 1) e (omega (arith, size, row_few few)) ∙ es)
+        (λ k low high.
+        let named = pairs.3.named k low (omega arith) in
+        set_there estimates (row - 1) e (nth order k 0) named.0 (λ is. let same = once.1 k (i + 1) low (omega arith) (omega arith) (omega arith) (is ∙ at ∙ sym (nth_next order i 0)) in omega (arith, same)) ∙ held k low high)
+        (ap (λ r. nth after r 0) (nth_next order i 0 ∙ sym at) ∙ set_here estimates (row - 1) e (omega (arith, size, row_few few)) ∙ es)

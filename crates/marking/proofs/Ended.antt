@@ -1,5 +1,5 @@
 -- A search with 96 slots in each list ends with a verdict.
-use Rattle.std.proofs.Common.{◌≡◌, ℕ, ◌+◌, ◌*◌, ◌/◌, ◌≤◌, List, length, Result, Ok, Err, IfOk, refl, sym, ap, subst, ◌∙◌, arith}
+use Rattle.std.proofs.Common.{◌≡◌, ℕ, ◌/◌, ◌≤◌, List, length, Result, Ok, IfOk, refl, ap, subst, arith}
 use Rattle.table.specs.declared.fault.Fault.{Fault}
 use Rattle.table.specs.Rows.{view}
 use Rattle.bounds.specs.declared.overhead.Overhead.{Overhead}

@@ -4,7 +4,7 @@ use Rattle.std.specs.List.{Contains}
 use Rattle.sheets.specs.declared.form.Column.{Column}
 use Rattle.sheets.specs.declared.form.Form.{Form}
 use Rattle.sheets.specs.declared.form.Form.TheVariants.{Board, Tasks, Answer}
-use Rattle.sheets.specs.declared.form.Column.TheVariants.{Processors, Overhead, Test, Task, Wcet, Period, Deadline, Estimate}
+use Rattle.sheets.specs.declared.form.Column.TheVariants.{Overhead, Test, Task, Wcet, Period, Deadline, Estimate}
 use Rattle.sheets.specs.declared.sheet.Sheet.{Sheet}
 use Rattle.sheets.specs.Forms.{kind_of, columns_of}
 use Rattle.sheets.specs.Fields.{Writes}

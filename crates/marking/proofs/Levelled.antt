@@ -1,8 +1,8 @@
 -- The levels of an order that was found, one after another.
-use Rattle.std.proofs.Common.{◌≡◌, ℕ, ◌+◌, ◌-◌, ◌<◌, ◌≤◌, List, [], length, get_or, set, take, sym, subst, ap, ◌∙◌, arith}
+use Rattle.std.proofs.Common.{◌≡◌, ℕ, ◌+◌, ◌-◌, ◌<◌, ◌≤◌, List, [], length, get_or, set, take, sym, subst, ◌∙◌, arith}
 use Rattle.std.proofs.lemmas.List.{get_or-set_same, get_or-set_other, get_or-take}
 use Rattle.table.specs.Places.{nth}
-use Rattle.table.proofs.Placed.{nth_at, nth_next, nth_replicate}
+use Rattle.table.proofs.Placed.{nth_at, nth_next}
 use Rattle.bounds.specs.Orders.{Order}
 use Rattle.study.specs.declared.finding.Finding.{Finding}
 use Rattle.sheets.specs.declared.sheet.Sheet.{Sheet}

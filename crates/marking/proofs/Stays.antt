@@ -1,6 +1,6 @@
 -- A search leaves the table as it was, and what it shows is what is promised.
-use Rattle.std.proofs.Common.{◌≡◌, ℕ, ◌+◌, ◌≤◌, Bool, List, [], length, take, Some, None, Option, Ok, refl, sym, ap, subst, ◌∙◌, arith}
-use Rattle.std.specs.Option.{IfSome, MatchOption}
+use Rattle.std.proofs.Common.{◌≡◌, ℕ, List, [], length, take, refl, sym, ap, subst, ◌∙◌, arith}
+use Rattle.std.specs.Option.{IfSome}
 use Rattle.table.specs.declared.row.Row.{Row}
 use Rattle.table.specs.declared.rows.Table.{Table}
 use Rattle.table.specs.Places.{nth}
@@ -19,7 +19,6 @@ use Rattle.study.specs.declared.state.State.TheVariants as state
 use Rattle.study.specs.Counts.{verdicts, finding_in}
 use Rattle.study.specs.Moments.{Moment, rows_of}
 use Rattle.study.specs.Begins.{HasRoom}
-use Rattle.study.specs.Histories.{Means}
 use Rattle.study.specs.Steps.{Stepped, none, keeps, full, finds, splits, stops}
 use Rattle.study.specs.Searches.{Leads, begins, steps}
 use Rattle.study.proofs.Lawful.{KeepsAt, begun_keeps, stepped_keeps, begin_accepted, step_accepted, ready}
@@ -29,7 +28,7 @@ use Rattle.marking.proofs.Answered.{nth_taken}
 use Rattle.marking.specs.declared.report.Report.{Report}
 use Rattle.marking.specs.declared.report.Verdict.{Verdict}
 use Rattle.marking.specs.declared.report.Verdict.TheVariants as verdict
-use Rattle.marking.specs.Reports.{answer_of, RowsOf, SearchedTo, ShowsStudy, LevelsOf, BlankPast, LevelsIn, verdict_of, names_of, Promises}
+use Rattle.marking.specs.Reports.{answer_of, RowsOf, SearchedTo, ShowsStudy, LevelsOf, LevelsIn, verdict_of, names_of, Promises}
 
 answer_laws : Laws answer_of
 answer_laws = over_laws named_laws

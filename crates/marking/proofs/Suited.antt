@@ -1,8 +1,7 @@
 -- What the board is asked.
-use Rattle.std.proofs.Common.{◌≡◌, ℕ, ◌+◌, ◌<◌, ◌≤◌, List, Result, Ok, Err, ap, sym, subst, ◌∙◌, inl, inr, arith}
+use Rattle.std.proofs.Common.{◌≡◌, ℕ, ◌≤◌, List, Result, Ok, Err, ap, sym, subst, ◌∙◌}
 use Rattle.std.specs.Result.{MatchResult}
 use Rattle.table.specs.declared.fault.Fault.{Fault}
-use Rattle.table.specs.declared.fault.Fault.TheVariants.{BadTest}
 use Rattle.bounds.specs.Made.{Allowed}
 use Rattle.bounds.specs.Named.{Known, IsNamed, MadeNamed}
 use Rattle.bounds.specs.declared.overhead.Overhead.{Overhead}
@@ -11,8 +10,7 @@ use Rattle.bounds.specs.Overheads.{MadeOverhead}
 use Rattle.sheets.specs.declared.form.Column.{Column}
 use Rattle.sheets.specs.declared.form.Column.TheVariants.{Processors, Overhead as V, Test, Task, Wcet, Period, Deadline, Estimate}
 use Rattle.sheets.specs.declared.sheet.Sheet.{Sheet}
-use Rattle.sheets.specs.Forms.{place}
-use Rattle.sheets.specs.Sheets.{left_of, field_of}
+use Rattle.sheets.specs.Sheets.{field_of}
 use Rattle.marking.specs.Questions.{number_of, IsTestName, Suits, HasTest, TestMisses, IsTest}
 
 -- only two columns are asked
@@ -44,4 +42,4 @@ test_made b name m v t r n e w small has named made =
     let o = made.1 small in
     let below : IsNamed name m o.0.below = subst (IsNamed name m) (sym o.3) named in
     subst (λ x. MatchResult x (λ test. HasTest b × IsTest b test) (TestMisses b)) (sym o.1)
-        (has, (o.2 ∙ w, subst (λ y. IsNamed y (number_of b 1 Processors) o.0.below) n (subst (λ y. IsNamed name y o.0.below) e below)))
+    (has, (o.2 ∙ w, subst (λ y. IsNamed y (number_of b 1 Processors) o.0.below) n (subst (λ y. IsNamed name y o.0.below) e below)))

@@ -34,7 +34,11 @@ pub(crate) struct Case {
 
 impl Case {
     /// Asks the sheets' values, the first question first.
-    pub(crate) fn new(board: &Sheet<'_>, tasks: &Sheet<'_>, answer: &Sheet<'_>) -> Result<Case, Fault>
+    pub(crate) fn new(
+        board: &Sheet<'_>,
+        tasks: &Sheet<'_>,
+        answer: &Sheet<'_>,
+    ) -> Result<Case, Fault>
         requires board { (board.now.form ≡ Board) × (count_of board.now ≡ 1) × IsFull board.now }
         requires tasks { (tasks.now.form ≡ Tasks) × IsFull tasks.now }
         requires answer { (answer.now.form ≡ Given) × IsFull answer.now }
@@ -53,7 +57,11 @@ impl Case {
     }
 
     /// What came of the answer. The check is not refused: the answer is an order, with an estimate for each row.
-    pub(crate) fn outcome<'a>(&self, tasks: &Sheet<'a>, answer: &Sheet<'_>) -> Result<Outcome<'a>, Fault>
+    pub(crate) fn outcome<'a>(
+        &self,
+        tasks: &Sheet<'a>,
+        answer: &Sheet<'_>,
+    ) -> Result<Outcome<'a>, Fault>
         requires tasks { (tasks.now.form ≡ Tasks) × IsFull tasks.now × (1 ≤ count_of tasks.now) }
         requires case { (board : OneSheet) × CaseOf board tasks.now answer.now self.now }
         ensures { (o : OneOutcome) × (result ≡ Ok o) × ChecksAnswer self.now.test (view self.now.study.table) tasks.now answer.now o }
@@ -65,7 +73,11 @@ impl Case {
     }
 
     /// Searches the rows, and reports that and what came of the answer.
-    pub(crate) fn report<'a>(mut self, tasks: &Sheet<'a>, answer: &Sheet<'_>) -> Result<Report<'a>, Fault>
+    pub(crate) fn report<'a>(
+        mut self,
+        tasks: &Sheet<'a>,
+        answer: &Sheet<'_>,
+    ) -> Result<Report<'a>, Fault>
         requires tasks { (tasks.now.form ≡ Tasks) × IsFull tasks.now × (1 ≤ count_of tasks.now) }
         requires case { (board : OneSheet) × CaseOf board tasks.now answer.now self }
         ensures { (r : OneReport) × (result ≡ Ok r) × Reports self.test tasks.now answer.now r }

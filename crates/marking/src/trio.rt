@@ -18,7 +18,11 @@ pub(crate) struct Trio<'a> {
 
 impl<'a> Trio<'a> {
     /// Reads three texts, the board first.
-    pub(crate) fn read(board: &'a [u8], tasks: &'a [u8], answer: &'a [u8]) -> Result<Trio<'a>, Fault>
+    pub(crate) fn read(
+        board: &'a [u8],
+        tasks: &'a [u8],
+        answer: &'a [u8],
+    ) -> Result<Trio<'a>, Fault>
         ensures { MatchResult result (λ s. (ReadsText Board board.now (Ok s.board) × ReadsText Tasks tasks.now (Ok s.tasks) × ReadsText Answer answer.now (Ok s.answer)) × (IsFull s.board × IsFull s.tasks × IsFull s.answer)) (λ fault. TextsMiss board.now tasks.now answer.now fault) }
     {
         Ok(Trio {

@@ -1,4 +1,4 @@
-use Rattle.std.proofs.Common.{◌+◌, ◌<◌, sym, ap, subst, ◌∙◌, refl, arith}
+use Rattle.std.proofs.Common.{◌<◌, sym, ap, subst, refl, arith}
 use Rattle.table.specs.declared.fault.Fault.TheVariants.{BadTest}
 use Rattle.bounds.specs.Made.{Allowed}
 use Rattle.std.proofs.lemmas.Bool.{false≢true}

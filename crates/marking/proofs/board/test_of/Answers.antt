@@ -1,7 +1,7 @@
-use Rattle.std.proofs.Common.{◌+◌, sym, ap, subst, ◌∙◌, refl, arith}
+use Rattle.std.proofs.Common.{sym, ◌∙◌, arith}
 use Rattle.table.proofs.Asked.{ok_err}
 use Rattle.sheets.specs.declared.form.Form.TheVariants.{Board}
-use Rattle.sheets.specs.declared.form.Column.TheVariants.{Processors, Overhead, Test}
+use Rattle.sheets.specs.declared.form.Column.TheVariants.{Overhead, Test}
 use Rattle.marking.proofs.Full.{test_there, overhead_there, has_field, has_number, small_number}
 use Rattle.marking.proofs.Suited.{known_here, named_made, test_made}
 use Rattle.marking.proofs.board.test_of.Goals as goal
@@ -19,7 +19,6 @@ returns-in_err-test c =
 
 pub returns : goal.returns
 returns c =
-    
     let board = c.args.board.now in
     let has = c.in_default.ensures in
     let small = small_number board 1 Overhead (has_number board Board c.requires.0 c.requires.2 Overhead overhead_there 1 (omega arith) (omega (arith, c.requires.1)) (λ h. h)) in

@@ -1,10 +1,10 @@
-use Rattle.std.proofs.Common.{◌≡◌, ◌+◌, ◌-◌, ◌<◌, ◌≤◌, get_or, refl, sym, ap, subst, ◌∙◌, arith}
+use Rattle.std.proofs.Common.{◌≡◌, ◌+◌, ◌<◌, ◌≤◌, get_or, ap, ◌∙◌, arith}
 use Rattle.std.proofs.lemmas.List.{length-set}
 use Rattle.std.proofs.lemmas.Bool.{both_ways}
 use Rattle.table.specs.declared.fault.Fault.TheVariants.{BadOrder}
 use Rattle.sheets.specs.declared.form.Form.TheVariants.{Tasks, Answer}
 use Rattle.sheets.specs.declared.form.Column.TheVariants.{Wcet, Deadline, Estimate}
-use Rattle.sheets.specs.Pairs.{count_of, EachLine}
+use Rattle.sheets.specs.Pairs.{count_of}
 use Rattle.sheets.proofs.Paired.{each_more, first_line}
 use Rattle.marking.specs.Questions.{HasEstimate}
 use Rattle.marking.proofs.Full.{wcet_there, deadline_there, estimate_there, has_field, has_number}

@@ -1,4 +1,4 @@
-use Rattle.std.proofs.Common.{◌≡◌, ℕ, ◌+◌, ◌-◌, ◌<◌, ◌≤◌, List, [], map, length, get_or, set, refl, sym, ap, subst, ◌∙◌, arith}
+use Rattle.std.proofs.Common.{◌≡◌, ℕ, ◌+◌, ◌-◌, ◌<◌, List, [], map, length, get_or, set, refl, sym, ap, subst, ◌∙◌, arith}
 use Rattle.std.proofs.lemmas.List.{map-set, length-map, length-set}
 use Rattle.table.specs.Places.{nth}
 use Rattle.table.proofs.Placed.{nth_at, nth_next, nth_replicate}
@@ -35,8 +35,8 @@ loop-i-preserved c =
     let many : i < length names = omega (arith, length-map c.loop-i.names (λ n. n.now), c.loop-i.invariant.many, c.len-i-end.ensures.few) in
     let size : i < length c.loop-i.estimates = omega (arith, c.loop-i.invariant.size, c.len-i-end.ensures.few) in
     let levels = levels_more tasks f i names c.loop-i.estimates c.field.result.bytes.now (get_or f.estimates (task - 1) 0) many size c.loop-i.invariant.levels
-        (c.field.ensures.bytes ∙ ap (task_of tasks) (sym (nth_next f.order i 0)))
-        (sym (nth_at f.estimates task 0 row.0) ∙ ap (λ k. nth f.estimates k 0) (sym (nth_next f.order i 0))) in
+    (c.field.ensures.bytes ∙ ap (task_of tasks) (sym (nth_next f.order i 0)))
+    (sym (nth_at f.estimates task 0 row.0) ∙ ap (λ k. nth f.estimates k 0) (sym (nth_next f.order i 0))) in
     let rest = blank_more tasks f i names c.loop-i.estimates c.field.result.bytes.now (get_or f.estimates (task - 1) 0) many size c.loop-i.invariant.rest in
     record {
       levels = subst (λ n. LevelsOf tasks f (i + 1) n (set c.loop-i.estimates i (get_or f.estimates (task - 1) 0))) (sym moved) levels;

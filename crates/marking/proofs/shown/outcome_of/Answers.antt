@@ -1,4 +1,3 @@
-use Rattle.std.proofs.Common.{IfSome, subst}
 use Rattle.sheets.specs.declared.form.Form.TheVariants.{Tasks}
 use Rattle.sheets.specs.declared.form.Column.TheVariants.{Task}
 use Rattle.marking.proofs.Full.{task_there, has_field}

@@ -1,4 +1,4 @@
-use Rattle.std.proofs.Common.{◌≤◌, refl, sym, ap, subst, ◌∙◌, arith}
+use Rattle.std.proofs.Common.{◌≤◌, refl, ap, arith}
 use Rattle.table.specs.declared.rows.Table.{Table}
 use Rattle.table.specs.declared.row.Row.{Row}
 use Rattle.table.specs.Rows.{view}

@@ -19,13 +19,16 @@ returns c =
     let shown = c.report_of.ensures.study in
     let told = c.outcome.ensures in
     let same = ap (given c.in_ok-outcome.outcome) (sym told.1 ∙ c.in_ok-outcome.was) in
-    let checks = subst (λ o. ChecksAnswer c.args.self.test (view c.args.self.study.table) c.args.tasks.now c.args.answer.now o) same told.2 in
-    (c.report_of.result, refl, record {
-      before = c.args.self.study;
-      after = c.search.new.study;
-      rows = case.rows;
-      searched = c.search.ensures.1;
-      shows = shown;
-      promises = promises c.args.self.test c.args.tasks.now c.args.self.study c.search.new.study c.search.ensures.1 case.rows c.report_of.result shown;
-      checks = subst (λ o. ChecksAnswer c.args.self.test (view c.args.self.study.table) c.args.tasks.now c.args.answer.now o) (sym c.report_of.ensures.outcome) checks;
-    })
+    let checks = subst (λ o. ChecksAnswer c.args.self.test (view c.args.self.study.table) c.args.tasks.now c.args.answer.now o) same told.2 in (
+      c.report_of.result,
+      refl,
+      record {
+        before = c.args.self.study;
+        after = c.search.new.study;
+        rows = case.rows;
+        searched = c.search.ensures.1;
+        shows = shown;
+        promises = promises c.args.self.test c.args.tasks.now c.args.self.study c.search.new.study c.search.ensures.1 case.rows c.report_of.result shown;
+        checks = subst (λ o. ChecksAnswer c.args.self.test (view c.args.self.study.table) c.args.tasks.now c.args.answer.now o) (sym c.report_of.ensures.outcome) checks;
+      },
+    )
