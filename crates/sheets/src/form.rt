@@ -36,12 +36,19 @@ pub enum Form {
 
 // The columns' names, as line 1 of a sheet has them.
 const PROCESSORS: &[u8] = b"processors";
+
 const OVERHEAD: &[u8] = b"overhead";
+
 const TEST: &[u8] = b"test";
+
 const TASK: &[u8] = b"task";
+
 const WCET: &[u8] = b"wcet";
+
 const PERIOD: &[u8] = b"period";
+
 const DEADLINE: &[u8] = b"deadline";
+
 const ESTIMATE: &[u8] = b"estimate";
 
 /// Room for the columns of a form.
