@@ -11,6 +11,7 @@ use Rattle.marking.specs.declared.report.Verdict.TheVariants.{Found, None as NoO
 use Rattle.marking.specs.declared.report.Outcome.{Outcome}
 use Rattle.marking.specs.declared.report.Outcome.TheVariants.{Passes, Fails}
 use Rattle.marking.specs.declared.report.Report.{Report}
+use Rattle.marking.specs.Reports.{names_of}
 
 -- a verdict's word
 abbrev pub word_of : Verdict → List ℕ
@@ -29,7 +30,7 @@ texts_of parts = map (λ part. part.now) parts
 
 -- the name of the task on a level; no byte where there is none
 abbrev pub task_on : Report → ℕ → List ℕ
-task_on r level = nth (texts_of r.tasks) level []
+task_on r level = nth (names_of r) level []
 
 -- the line of a level: the level, its task, and the task's estimate
 abbrev pub level_line : Report → ℕ → List (List ℕ)
