@@ -1,0 +1,10 @@
+pub mod Answered
+pub mod Claimed
+pub mod Counted
+pub mod Ended
+pub mod Full
+pub mod Levelled
+pub mod Rowed
+pub mod Stays
+pub mod Suited
+pub mod Written

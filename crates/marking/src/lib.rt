@@ -1,3 +1,12 @@
 #![tactic(auto)]
 
+mod board;
+mod case;
+mod claims;
+mod fields;
+pub mod mark;
+pub mod render;
 pub mod report;
+mod rows;
+mod shown;
+mod trio;

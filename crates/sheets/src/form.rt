@@ -34,6 +34,23 @@ pub enum Form {
     Answer,
 }
 
+// The columns' names, as line 1 of a sheet has them.
+const PROCESSORS: &[u8] = b"processors";
+
+const OVERHEAD: &[u8] = b"overhead";
+
+const TEST: &[u8] = b"test";
+
+const TASK: &[u8] = b"task";
+
+const WCET: &[u8] = b"wcet";
+
+const PERIOD: &[u8] = b"period";
+
+const DEADLINE: &[u8] = b"deadline";
+
+const ESTIMATE: &[u8] = b"estimate";
+
 /// Room for the columns of a form.
 pub(crate) const ROOM: usize = 8;
 
@@ -43,15 +60,31 @@ impl Column {
         ensures { MatchOption result ((c : Column) → name.now ≢ name_of c) (λ c. name.now ≡ name_of c) }
     {
         match name {
-            b"processors" => Some(Column::Processors),
-            b"overhead" => Some(Column::Overhead),
-            b"test" => Some(Column::Test),
-            b"task" => Some(Column::Task),
-            b"wcet" => Some(Column::Wcet),
-            b"period" => Some(Column::Period),
-            b"deadline" => Some(Column::Deadline),
-            b"estimate" => Some(Column::Estimate),
+            PROCESSORS => Some(Column::Processors),
+            OVERHEAD => Some(Column::Overhead),
+            TEST => Some(Column::Test),
+            TASK => Some(Column::Task),
+            WCET => Some(Column::Wcet),
+            PERIOD => Some(Column::Period),
+            DEADLINE => Some(Column::Deadline),
+            ESTIMATE => Some(Column::Estimate),
             _ => None,
+        }
+    }
+
+    /// Its name.
+    pub fn name(self) -> &'static [u8]
+        ensures { result.now ≡ name_of self }
+    {
+        match self {
+            Column::Processors => PROCESSORS,
+            Column::Overhead => OVERHEAD,
+            Column::Test => TEST,
+            Column::Task => TASK,
+            Column::Wcet => WCET,
+            Column::Period => PERIOD,
+            Column::Deadline => DEADLINE,
+            Column::Estimate => ESTIMATE,
         }
     }
 

@@ -1,0 +1,28 @@
+use Rattle.std.proofs.Common.{sym, subst, inr}
+use Rattle.std.proofs.lemmas.Result.{err_from_is_err_and}
+use Rattle.marking.specs.Reports.{Marks}
+use Rattle.marking.proofs.mark.mark.Goals as goal
+
+pub returns-in_err-case : goal.returns-in_err-case
+returns-in_err-case c =
+    let p = err_from_is_err_and c.from_residual-in_err-case.result c.from_residual-in_err-case.ensures.1 in
+    let read = c.in_ok-board.ensures.0 in
+    rw (p.1, p.2) (inr (c.in_ok-board.field-0.board, c.in_ok-board.field-0.tasks, c.in_ok-board.field-0.answer, read, c.in_err-case.ensures))
+
+pub returns : goal.returns
+returns c =
+    let case = c.in_ok-case.ensures in
+    let told = c.report.ensures in
+    subst (Marks c.args.board.now c.args.tasks.now c.args.answer.now) (sym told.1) (record {
+      board = c.in_ok-board.field-0.board;
+      tasks = c.in_ok-board.field-0.tasks;
+      answer = c.in_ok-board.field-0.answer;
+      read = c.in_ok-board.ensures.0;
+      has_test = case.has_test;
+      paired = (case.pairs.0, case.pairs.1, case.pairs.2);
+      lines = case.lines;
+      lie = case.lie;
+      test = c.in_ok-case.case.test;
+      is_test = case.test;
+      reports = told.2;
+    })

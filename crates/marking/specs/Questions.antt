@@ -1,0 +1,89 @@
+-- What three sheets are asked, once each is read: their values.
+use Rattle.std.specs.Prelude.{◌≡◌, ℕ, ◌+◌, ◌<◌, ◌≤◌, ◌⊎◌, List, codes}
+use Rattle.table.specs.declared.fault.Fault.{Fault}
+use Rattle.table.specs.declared.fault.Fault.TheVariants.{BadRow, BadTest, BadOrder}
+use Rattle.table.specs.Rows.{IsRow}
+use Rattle.bounds.specs.Made.{Allowed}
+use Rattle.bounds.specs.declared.overhead.Overhead.{Overhead}
+use Rattle.bounds.specs.declared.named.NamedTest.{NamedTest}
+use Rattle.bounds.specs.Named.{IsNamed}
+use Rattle.sheets.specs.declared.form.Column.{Column}
+use Rattle.sheets.specs.declared.form.Column.TheVariants.{Processors, Overhead as V, Test, Wcet, Period, Deadline, Estimate}
+use Rattle.sheets.specs.declared.sheet.Sheet.{Sheet}
+use Rattle.sheets.specs.Fields.{value, Writes}
+use Rattle.sheets.specs.Forms.{place}
+use Rattle.sheets.specs.Sheets.{left_of, HasField, field_of}
+use Rattle.sheets.specs.declared.form.Form.{Form}
+use Rattle.sheets.specs.declared.form.Form.TheVariants.{Board, Tasks, Answer}
+use Rattle.sheets.specs.Reading.{IsFirst, IsSheet}
+use Rattle.sheets.specs.Pairs.{count_of, task_of, IsNew, Answers, IsAnswered, HasTaskAt, EachLine, FirstLine, PairMisses}
+
+-- the number under a column in the k-th value line
+abbrev pub number_of : Sheet → ℕ → Column → ℕ
+number_of s k c = value (field_of s k c)
+
+-- the k-th value line has a number under a column
+abbrev pub HasNumber : Sheet → ℕ → Column → Type 0
+HasNumber s k c = HasField s k c × ((n : ℕ) × Writes (field_of s k c) n)
+
+-- a test has this name
+abbrev pub IsTestName : List ℕ → Type 0
+IsTestName name = (name ≡ codes "da") ⊎ ((name ≡ codes "rta") ⊎ (name ≡ codes "lc"))
+
+-- question 12, of a column of the board: m is from 1 to 16, and the test is known; V is small enough by its form
+abbrev pub Suits : Sheet → Column → Type 0
+Suits board Processors = Allowed (number_of board 1 Processors)
+Suits board Test = IsTestName (field_of board 1 Test)
+Suits board column = Unit {0}
+
+-- the board has a test
+abbrev pub HasTest : Sheet → Type 0
+HasTest board = (c : Column) → Suits board c
+
+-- the fault is that of the leftmost field of the board that misses the question
+abbrev pub TestMisses : Sheet → Fault → Type 0
+TestMisses board fault =
+    (c : Column) × (fault ≡ BadTest (place board.form 2 (left_of board c + 1))) × (Suits board c → ⊥) × ((d : Column) → left_of board d < left_of board c → Suits board d)
+
+-- the test is the board's: the one of its name, on its processors, under an overhead of its V
+abbrev pub IsTest : Sheet → Overhead NamedTest → Type 0
+IsTest board t = (t.added ≡ number_of board 1 V) × IsNamed (field_of board 1 Test) (number_of board 1 Processors) t.below
+
+-- question 11: the numbers of the k-th value line of the tasks sheet make a row
+abbrev pub HasRow : Sheet → ℕ → Type 0
+HasRow tasks k = IsRow (number_of tasks k Wcet) (number_of tasks k Period) (number_of tasks k Deadline)
+
+-- the fault is that of the first line that makes no row
+abbrev pub RowMisses : Sheet → Fault → Type 0
+RowMisses tasks fault = (k : ℕ) × (fault ≡ BadRow (place tasks.form (k + 1) 0)) × FirstLine (HasRow tasks) (count_of tasks) k
+
+-- question 17: the estimate in the k-th value line of the answer lies from the C to the D of the task that the line names
+abbrev pub HasEstimate : Sheet → Sheet → ℕ → Type 0
+HasEstimate tasks answer k =
+    (row : ℕ) → HasTaskAt tasks (task_of answer k) row → (number_of tasks row Wcet ≤ number_of answer k Estimate) × (number_of answer k Estimate ≤ number_of tasks row Deadline)
+
+-- the fault is that of the first line whose estimate does not
+abbrev pub EstimateMisses : Sheet → Sheet → Fault → Type 0
+EstimateMisses tasks answer fault =
+    (k : ℕ) × (fault ≡ BadOrder (place answer.form (k + 1) (left_of answer Estimate + 1))) × FirstLine (HasEstimate tasks answer) (count_of answer) k
+
+-- a text is a sheet of a form
+abbrev pub IsForm : Form → List ℕ → Type 0
+IsForm form text = (lines : List (List (List ℕ))) × (order : List Column) × IsSheet form text lines order
+
+-- The fault is the first of three texts, where one of them is no sheet: those of the board come first, then those of the tasks.
+pub data TextsMiss (board tasks answer : List ℕ) (fault : Fault) : Type 0 where
+  in_board : IsFirst Board board fault → TextsMiss board tasks answer fault
+  in_tasks : IsForm Board board → IsFirst Tasks tasks fault → TextsMiss board tasks answer fault
+  in_answer : IsForm Board board → IsForm Tasks tasks → IsFirst Answer answer fault → TextsMiss board tasks answer fault
+
+-- no question of a pair is missed
+abbrev pub IsPaired : Sheet → Sheet → Type 0
+IsPaired tasks answer = EachLine (IsNew tasks) (count_of tasks) × EachLine (Answers tasks answer) (count_of answer) × EachLine (IsAnswered tasks answer) (count_of tasks)
+
+-- The fault is the first of three sheets: the board's test is asked first, then the pair, the rows and the estimates.
+pub data SheetsMiss (board tasks answer : Sheet) (fault : Fault) : Type 0 where
+  by_test : TestMisses board fault → SheetsMiss board tasks answer fault
+  by_pair : HasTest board → PairMisses tasks answer fault → SheetsMiss board tasks answer fault
+  by_row : HasTest board → IsPaired tasks answer → RowMisses tasks fault → SheetsMiss board tasks answer fault
+  by_estimate : HasTest board → IsPaired tasks answer → EachLine (HasRow tasks) (count_of tasks) → EstimateMisses tasks answer fault → SheetsMiss board tasks answer fault

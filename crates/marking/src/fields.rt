@@ -1,0 +1,26 @@
+// The fields of a sheet that was read, where they are known to be there.
+ghost use Rattle.std.specs.Prelude.{◌≡◌, ◌+◌};
+ghost use Rattle.sheets.specs.Forms.{place};
+ghost use Rattle.sheets.specs.Sheets.{left_of, HasField, field_of};
+ghost use Rattle.marking.specs.Questions.{number_of, HasNumber};
+
+use sheets::field::Field;
+use sheets::form::Column;
+use sheets::sheet::Sheet;
+
+/// The field under a column in the k-th value line.
+pub(crate) fn field<'a>(sheet: &Sheet<'a>, k: usize, column: Column) -> Field<'a>
+    requires { HasField sheet.now k column }
+    ensures bytes { result.bytes.now ≡ field_of sheet.now k column }
+    ensures place { result.place ≡ place sheet.now.form (k + 1) (left_of sheet.now column + 1) }
+{
+    sheet.field(k, column).unwrap()
+}
+
+/// The number under a column in the k-th value line.
+pub(crate) fn number(sheet: &Sheet<'_>, k: usize, column: Column) -> u32
+    requires { HasNumber sheet.now k column }
+    ensures { result ≡ number_of sheet.now k column }
+{
+    field(sheet, k, column).number().unwrap()
+}

@@ -1,0 +1,22 @@
+// Text in, report out.
+ghost use Rattle.std.specs.Prelude.{◌≡◌};
+ghost use Rattle.marking.specs.Reports.{Marks};
+
+use crate::case::Case;
+use crate::report::Report;
+use crate::trio::Trio;
+use table::fault::Fault;
+
+/// The report on a board, its tasks and an answer: the search of the tasks' rows under the board's test, and the check of
+/// the answer; or the first fault.
+pub fn mark<'a>(board: &'a [u8], tasks: &'a [u8], answer: &'a [u8]) -> Result<Report<'a>, Fault>
+    ensures { Marks board.now tasks.now answer.now result }
+{
+    let Trio {
+        board,
+        tasks,
+        answer,
+    } = Trio::read(board, tasks, answer)?;
+    let case = Case::new(&board, &tasks, &answer)?;
+    case.report(&tasks, &answer)
+}
