@@ -11,7 +11,9 @@ mod tests {
     use table::fault::{Fault, Place};
 
     const BOARD: &str = "processors overhead test\n2 0 rta\n";
+
     const TASKS: &str = "task wcet period deadline\na 2 5 5\nb 2 5 5\nc 3 6 6\n";
+
     const ANSWER: &str = "task estimate\na 2\nb 3\nc 5\n";
 
     fn marked<'a>(board: &'a str, tasks: &'a str, answer: &'a str) -> Result<Report<'a>, Fault> {
@@ -37,19 +39,31 @@ mod tests {
 
     // The report shows these levels, and nothing past them.
     fn shows(rt: &impl Abort, report: &Report<'_>, levels: &[(&str, u32)]) {
+        let Report {
+            tasks,
+            estimates,
+            ..
+        } = *report;
         assert_eq!(rt; report.levels, levels.len());
         for (i, (name, estimate)) in levels.iter().enumerate().take(32) {
-            assert!(rt; report.tasks[i] == name.as_bytes());
-            assert_eq!(rt; report.estimates[i], *estimate);
+            let task = tasks[i];
+            assert!(rt; task == name.as_bytes());
+            assert_eq!(rt; estimates[i], *estimate);
         }
         for i in levels.len()..32 {
-            assert!(rt; report.tasks[i].is_empty());
-            assert_eq!(rt; report.estimates[i], 0);
+            let task = tasks[i];
+            assert!(rt; task.is_empty());
+            assert_eq!(rt; estimates[i], 0);
         }
     }
 
     // The answer fails at this task, with this bound.
-    fn fails(rt: &impl Abort, report: &Report<'_>, name: &str, late: Option<u32>) -> Result<(), Fail> {
+    fn fails(
+        rt: &impl Abort,
+        report: &Report<'_>,
+        name: &str,
+        late: Option<u32>,
+    ) -> Result<(), Fail> {
         match report.outcome {
             Outcome::Passes => Err(Fail::new("the answer passes")),
             Outcome::Fails { task, bound } => {
@@ -137,40 +151,151 @@ mod tests {
     #[test]
     fn refuses_texts(rt: HostRuntime) -> Result<(), Fail> {
         faulty(&rt, ["", TASKS, ANSWER], 1, (1, 0, 0))?;
-        faulty(&rt, [BOARD, "task wcet period deadline\na 2 5 5", ANSWER], 1, (2, 0, 0))?;
-        faulty(&rt, [BOARD, "task wcet period\na 2 5\n", ANSWER], 2, (2, 1, 0))?;
-        faulty(&rt, [BOARD, TASKS, "task estimate\na 2\nb 3 4\nc 5\n"], 3, (3, 3, 0))?;
-        faulty(&rt, [BOARD, "task wcet period deadline\na 2 5 5\nb 2 007 5\n", ANSWER], 4, (2, 3, 3))?;
-        faulty(&rt, ["processors overhead test\n2 0 rta\n2 0 rta\n", TASKS, ANSWER], 5, (1, 3, 0))?;
+        faulty(
+            &rt,
+            [BOARD, "task wcet period deadline\na 2 5 5", ANSWER],
+            1,
+            (2, 0, 0),
+        )?;
+        faulty(
+            &rt,
+            [BOARD, "task wcet period\na 2 5\n", ANSWER],
+            2,
+            (2, 1, 0),
+        )?;
+        faulty(
+            &rt,
+            [BOARD, TASKS, "task estimate\na 2\nb 3 4\nc 5\n"],
+            3,
+            (3, 3, 0),
+        )?;
+        faulty(
+            &rt,
+            [
+                BOARD,
+                "task wcet period deadline\na 2 5 5\nb 2 007 5\n",
+                ANSWER,
+            ],
+            4,
+            (2, 3, 3),
+        )?;
+        faulty(
+            &rt,
+            [
+                "processors overhead test\n2 0 rta\n2 0 rta\n",
+                TASKS,
+                ANSWER,
+            ],
+            5,
+            (1, 3, 0),
+        )?;
         faulty(&rt, [BOARD, TASKS, "task estimate\n"], 5, (3, 1, 0))
     }
 
     #[test]
     fn refuses_boards(rt: HostRuntime) -> Result<(), Fail> {
-        faulty(&rt, ["processors overhead test\n0 0 rta\n", TASKS, ANSWER], 12, (1, 2, 1))?;
-        faulty(&rt, ["processors overhead test\n17 0 rta\n", TASKS, ANSWER], 12, (1, 2, 1))?;
-        faulty(&rt, ["processors overhead test\n2 0 rt\n", TASKS, ANSWER], 12, (1, 2, 3))?;
-        faulty(&rt, ["processors overhead test\n0 0 rt\n", TASKS, ANSWER], 12, (1, 2, 1))?;
-        faulty(&rt, ["overhead test processors\n0 rt 0\n", TASKS, ANSWER], 12, (1, 2, 2))?;
-        faulty(&rt, ["overhead test processors\n0 da 0\n", TASKS, ANSWER], 12, (1, 2, 3))
+        faulty(
+            &rt,
+            ["processors overhead test\n0 0 rta\n", TASKS, ANSWER],
+            12,
+            (1, 2, 1),
+        )?;
+        faulty(
+            &rt,
+            ["processors overhead test\n17 0 rta\n", TASKS, ANSWER],
+            12,
+            (1, 2, 1),
+        )?;
+        faulty(
+            &rt,
+            ["processors overhead test\n2 0 rt\n", TASKS, ANSWER],
+            12,
+            (1, 2, 3),
+        )?;
+        faulty(
+            &rt,
+            ["processors overhead test\n0 0 rt\n", TASKS, ANSWER],
+            12,
+            (1, 2, 1),
+        )?;
+        faulty(
+            &rt,
+            ["overhead test processors\n0 rt 0\n", TASKS, ANSWER],
+            12,
+            (1, 2, 2),
+        )?;
+        faulty(
+            &rt,
+            ["overhead test processors\n0 da 0\n", TASKS, ANSWER],
+            12,
+            (1, 2, 3),
+        )
     }
 
     #[test]
     fn refuses_pairs_and_values(rt: HostRuntime) -> Result<(), Fail> {
-        faulty(&rt, [BOARD, "task wcet period deadline\na 2 5 5\na 2 5 5\n", ANSWER], 6, (2, 3, 1))?;
-        faulty(&rt, [BOARD, TASKS, "estimate task\n2 a\n3 x\n5 c\n"], 7, (3, 3, 2))?;
-        faulty(&rt, [BOARD, TASKS, "task estimate\na 2\nb 3\nb 3\n"], 7, (3, 4, 1))?;
-        faulty(&rt, [BOARD, TASKS, "task estimate\na 2\nc 5\n"], 8, (2, 3, 0))?;
-        faulty(&rt, [BOARD, "task wcet period deadline\na 2 5 5\nb 3 5 2\nc 0 6 6\n", ANSWER], 11, (2, 3, 0))?;
-        faulty(&rt, [BOARD, TASKS, "task estimate\nc 6\na 1\nb 6\n"], 17, (3, 3, 2))?;
-        faulty(&rt, [BOARD, TASKS, "estimate task\n7 c\n2 a\n2 b\n"], 17, (3, 2, 1))
+        faulty(
+            &rt,
+            [
+                BOARD,
+                "task wcet period deadline\na 2 5 5\na 2 5 5\n",
+                ANSWER,
+            ],
+            6,
+            (2, 3, 1),
+        )?;
+        faulty(
+            &rt,
+            [BOARD, TASKS, "estimate task\n2 a\n3 x\n5 c\n"],
+            7,
+            (3, 3, 2),
+        )?;
+        faulty(
+            &rt,
+            [BOARD, TASKS, "task estimate\na 2\nb 3\nb 3\n"],
+            7,
+            (3, 4, 1),
+        )?;
+        faulty(
+            &rt,
+            [BOARD, TASKS, "task estimate\na 2\nc 5\n"],
+            8,
+            (2, 3, 0),
+        )?;
+        faulty(
+            &rt,
+            [
+                BOARD,
+                "task wcet period deadline\na 2 5 5\nb 3 5 2\nc 0 6 6\n",
+                ANSWER,
+            ],
+            11,
+            (2, 3, 0),
+        )?;
+        faulty(
+            &rt,
+            [BOARD, TASKS, "task estimate\nc 6\na 1\nb 6\n"],
+            17,
+            (3, 3, 2),
+        )?;
+        faulty(
+            &rt,
+            [BOARD, TASKS, "estimate task\n7 c\n2 a\n2 b\n"],
+            17,
+            (3, 2, 1),
+        )
     }
 
     #[test]
     fn asks_in_order(rt: HostRuntime) -> Result<(), Fail> {
         // The board's fifth question comes before the first of the tasks, and the fifth of these before the first of the answer.
         faulty(&rt, ["processors overhead test\n", "", ""], 5, (1, 1, 0))?;
-        faulty(&rt, [BOARD, "task wcet period deadline\n", ""], 5, (2, 1, 0))?;
+        faulty(
+            &rt,
+            [BOARD, "task wcet period deadline\n", ""],
+            5,
+            (2, 1, 0),
+        )?;
         // A text is asked before the test, the test before the pair, the pair before the rows, these before the estimates.
         let unknown = "processors overhead test\n2 0 x\n";
         faulty(&rt, [unknown, TASKS, "task estimate\n"], 5, (3, 1, 0))?;
@@ -179,6 +304,11 @@ mod tests {
         faulty(&rt, [BOARD, twice, ANSWER], 6, (2, 3, 1))?;
         let bad = "task wcet period deadline\na 0 5 5\nb 2 5 5\n";
         faulty(&rt, [BOARD, bad, "task estimate\nb 9\n"], 8, (2, 2, 0))?;
-        faulty(&rt, [BOARD, bad, "task estimate\nb 9\na 9\n"], 11, (2, 2, 0))
+        faulty(
+            &rt,
+            [BOARD, bad, "task estimate\nb 9\na 9\n"],
+            11,
+            (2, 2, 0),
+        )
     }
 }
