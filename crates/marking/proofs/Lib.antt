@@ -5,5 +5,6 @@ pub mod Full
 pub mod Counted
 pub mod Levelled
 pub mod Rowed
+pub mod Singles
 pub mod Stays
 pub mod Suited
