@@ -7,6 +7,8 @@ use Rattle.sheets.specs.declared.form.Form.TheVariants.{Board, Tasks, Answer}
 use Rattle.sheets.specs.Reading.{IsFirst}
 use Rattle.sheets.proofs.Outcomes.{one_first}
 use Rattle.sheets.proofs.Readings.{sheet_is_read}
+use Rattle.sheets.specs.declared.sheet.Sheet.{Sheet}
+use Rattle.marking.specs.Reports.{Read}
 use Rattle.marking.specs.Questions.{IsForm, TextsMiss, in_board, in_tasks, in_answer}
 
 -- what is a sheet has no fault
@@ -23,3 +25,9 @@ one_fault x y z f g (in_tasks p a) (in_answer q r b) = absurd (no_fault Tasks y 
 one_fault x y z f g (in_answer p q a) (in_board b) = absurd (no_fault Board x g p b)
 one_fault x y z f g (in_answer p q a) (in_tasks r b) = absurd (no_fault Tasks y g q b)
 one_fault x y z f g (in_answer p q a) (in_answer r t b) = one_first Answer z f g a b
+
+-- and then they are not all sheets
+pub not_read : (x y z : List ℕ) (f : Fault) → TextsMiss x y z f → (board tasks answer : Sheet) → Read x y z board tasks answer → ⊥
+not_read x y z f (in_board a) board tasks answer read = no_fault Board x f (read.0.0, read.0.1, read.0.2) a
+not_read x y z f (in_tasks p a) board tasks answer read = no_fault Tasks y f (read.1.0, read.1.1, read.1.2) a
+not_read x y z f (in_answer p q a) board tasks answer read = no_fault Answer z f (read.2.0, read.2.1, read.2.2) a

@@ -1,7 +1,7 @@
 use Rattle.std.proofs.Common.{sym, subst, inr}
 use Rattle.std.proofs.lemmas.Result.{err_from_is_err_and}
 use Rattle.marking.specs.Reports.{Marks}
-use Rattle.marking.proofs.Singles.{one_fault}
+use Rattle.marking.proofs.Singles.{one_fault, not_read}
 use Rattle.marking.proofs.mark.mark.Goals as goal
 
 pub returns-in_err-case-clause-marks : goal.returns-in_err-case-clause-marks
@@ -36,3 +36,12 @@ returns-in_err-case-clause-first c = one_fault c.args.board.now c.args.tasks.now
 
 pub returns-clause-first : goal.returns-clause-first
 returns-clause-first c = one_fault c.args.board.now c.args.tasks.now c.args.answer.now
+
+pub returns-in_err-board-clause-apart : goal.returns-in_err-board-clause-apart
+returns-in_err-board-clause-apart c = λ f b t a miss read. not_read c.args.board.now c.args.tasks.now c.args.answer.now f miss b t a read
+
+pub returns-in_err-case-clause-apart : goal.returns-in_err-case-clause-apart
+returns-in_err-case-clause-apart c = λ f b t a miss read. not_read c.args.board.now c.args.tasks.now c.args.answer.now f miss b t a read
+
+pub returns-clause-apart : goal.returns-clause-apart
+returns-clause-apart c = λ f b t a miss read. not_read c.args.board.now c.args.tasks.now c.args.answer.now f miss b t a read
