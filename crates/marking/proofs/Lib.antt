@@ -5,6 +5,7 @@ pub mod Ended
 pub mod Full
 pub mod Levelled
 pub mod Rowed
+pub mod Singles
 pub mod Stays
 pub mod Suited
 pub mod Written

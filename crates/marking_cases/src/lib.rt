@@ -39,14 +39,21 @@ mod tests {
 
     // The report shows these levels, and nothing past them.
     fn shows(rt: &impl Abort, report: &Report<'_>, levels: &[(&str, u32)]) {
+        let Report {
+            tasks,
+            estimates,
+            ..
+        } = *report;
         assert_eq!(rt; report.levels, levels.len());
         for (i, (name, estimate)) in levels.iter().enumerate().take(32) {
-            assert!(rt; report.tasks[i] == name.as_bytes());
-            assert_eq!(rt; report.estimates[i], *estimate);
+            let task = tasks[i];
+            assert!(rt; task == name.as_bytes());
+            assert_eq!(rt; estimates[i], *estimate);
         }
         for i in levels.len()..32 {
-            assert!(rt; report.tasks[i].is_empty());
-            assert_eq!(rt; report.estimates[i], 0);
+            let task = tasks[i];
+            assert!(rt; task.is_empty());
+            assert_eq!(rt; estimates[i], 0);
         }
     }
 
