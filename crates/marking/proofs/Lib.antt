@@ -1,7 +1,9 @@
+pub mod Alike
 pub mod Answered
 pub mod Claimed
 pub mod Counted
 pub mod Ended
+pub mod Faults
 pub mod Full
 pub mod Levelled
 pub mod Rowed

@@ -1,9 +1,8 @@
 // Text in, report out.
-ghost use Rattle.std.specs.Prelude.{◌≡◌};
+ghost use Rattle.std.specs.Prelude.{◌≡◌, Ok, Err};
 ghost use Rattle.table.specs.declared.fault.Fault.{Fault as OneFault};
-ghost use Rattle.sheets.specs.declared.sheet.Sheet.{Sheet as OneSheet};
-ghost use Rattle.marking.specs.Questions.{TextsMiss};
-ghost use Rattle.marking.specs.Reports.{Marks, Read};
+ghost use Rattle.marking.specs.declared.report.Report.{Report as OneReport};
+ghost use Rattle.marking.specs.Reports.{Marks};
 
 use crate::case::Case;
 use crate::report::Report;
@@ -14,9 +13,9 @@ use table::fault::Fault;
 /// the answer; or the first fault.
 pub fn mark<'a>(board: &'a [u8], tasks: &'a [u8], answer: &'a [u8]) -> Result<Report<'a>, Fault>
     ensures marks { Marks board.now tasks.now answer.now result }
-    // Three texts that are not all sheets have one first fault, and nothing else is said of them.
-    ensures first { (f g : OneFault) → TextsMiss board.now tasks.now answer.now f → TextsMiss board.now tasks.now answer.now g → f ≡ g }
-    ensures apart { (f : OneFault) (b t a : OneSheet) → TextsMiss board.now tasks.now answer.now f → Read board.now tasks.now answer.now b t a → ⊥ }
+    // Three texts have one fault at most, and never a fault and a report.
+    ensures one { (f g : OneFault) → Marks board.now tasks.now answer.now (Err f) → Marks board.now tasks.now answer.now (Err g) → f ≡ g }
+    ensures either { (r : OneReport) (f : OneFault) → Marks board.now tasks.now answer.now (Ok r) → Marks board.now tasks.now answer.now (Err f) → ⊥ }
 {
     let Trio {
         board,

@@ -38,7 +38,8 @@ fifth_number : (late line field : ℕ) → late ≡ 1 → 5 ≡ number_at late l
 unfolding number_at
 fifth_number late line field a = grind (arith, nat_tests)
 
-level : (a b : ℕ) → (a < b → ⊥) → (b < a → ⊥) → a ≡ b
+-- two numbers of which neither is below the other are one
+pub level : (a b : ℕ) → (a < b → ⊥) → (b < a → ⊥) → a ≡ b
 level a b below above = elim (cases_lt a b) [
   | inl l ↦ absurd (below l)
   | inr m ↦ elim (cases_lt b a) [ inl l ↦ absurd (above l) | inr n ↦ omega arith ]

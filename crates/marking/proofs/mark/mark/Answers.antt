@@ -1,7 +1,7 @@
 use Rattle.std.proofs.Common.{sym, subst, inr}
 use Rattle.std.proofs.lemmas.Result.{err_from_is_err_and}
 use Rattle.marking.specs.Reports.{Marks}
-use Rattle.marking.proofs.Singles.{one_fault, not_read}
+use Rattle.marking.proofs.Singles.{one_refusal, no_refusal}
 use Rattle.marking.proofs.mark.mark.Goals as goal
 
 pub returns-in_err-case-clause-marks : goal.returns-in_err-case-clause-marks
@@ -28,20 +28,20 @@ returns-clause-marks c =
       reports = told.2;
     })
 
-pub returns-in_err-board-clause-first : goal.returns-in_err-board-clause-first
-returns-in_err-board-clause-first c = one_fault c.args.board.now c.args.tasks.now c.args.answer.now
+pub returns-in_err-board-clause-one : goal.returns-in_err-board-clause-one
+returns-in_err-board-clause-one c = one_refusal c.args.board.now c.args.tasks.now c.args.answer.now
 
-pub returns-in_err-case-clause-first : goal.returns-in_err-case-clause-first
-returns-in_err-case-clause-first c = one_fault c.args.board.now c.args.tasks.now c.args.answer.now
+pub returns-in_err-case-clause-one : goal.returns-in_err-case-clause-one
+returns-in_err-case-clause-one c = one_refusal c.args.board.now c.args.tasks.now c.args.answer.now
 
-pub returns-clause-first : goal.returns-clause-first
-returns-clause-first c = one_fault c.args.board.now c.args.tasks.now c.args.answer.now
+pub returns-clause-one : goal.returns-clause-one
+returns-clause-one c = one_refusal c.args.board.now c.args.tasks.now c.args.answer.now
 
-pub returns-in_err-board-clause-apart : goal.returns-in_err-board-clause-apart
-returns-in_err-board-clause-apart c = λ f b t a miss read. not_read c.args.board.now c.args.tasks.now c.args.answer.now f miss b t a read
+pub returns-in_err-board-clause-either : goal.returns-in_err-board-clause-either
+returns-in_err-board-clause-either c = no_refusal c.args.board.now c.args.tasks.now c.args.answer.now
 
-pub returns-in_err-case-clause-apart : goal.returns-in_err-case-clause-apart
-returns-in_err-case-clause-apart c = λ f b t a miss read. not_read c.args.board.now c.args.tasks.now c.args.answer.now f miss b t a read
+pub returns-in_err-case-clause-either : goal.returns-in_err-case-clause-either
+returns-in_err-case-clause-either c = no_refusal c.args.board.now c.args.tasks.now c.args.answer.now
 
-pub returns-clause-apart : goal.returns-clause-apart
-returns-clause-apart c = λ f b t a miss read. not_read c.args.board.now c.args.tasks.now c.args.answer.now f miss b t a read
+pub returns-clause-either : goal.returns-clause-either
+returns-clause-either c = no_refusal c.args.board.now c.args.tasks.now c.args.answer.now
