@@ -849,6 +849,41 @@ mod tests {
         Ok(())
     }
 
+    // The last counted slot is looked at, not the first.
+    #[test]
+    fn refuses_a_step_on_foreign_numbers_in_a_later_slot(rt: HostRuntime) -> Result<(), Fail> {
+        let test = rta(2)?;
+        let mut lent = running()?;
+        lent.study.step(&test, &mut lent.ledger, &mut lent.pending)?;
+        assert_eq!(rt; lent.study.pending(), 3);
+        lent.pending[128 + 3] = 1;
+        let before = lent.all();
+        let step = lent.study.step(&test, &mut lent.ledger, &mut lent.pending);
+        is_refused(&rt, step, Fault::OtherLists, 16, Layer::Study);
+        assert!(rt; lent.all() == before);
+        Ok(())
+    }
+
+    #[test]
+    fn refuses_a_step_on_longer_lists(rt: HostRuntime) -> Result<(), Fail> {
+        let test = rta(2)?;
+        let mut study = study_of(&WORKED)?;
+        let mut ledger = [FOREIGN; 64];
+        let mut pending = [FOREIGN; 64];
+        study.begin(&mut ledger, &mut pending)?;
+        let mut longer = [0; 128];
+        for place in 0..64 {
+            longer[place] = pending[place];
+        }
+        let before = (see(&study), ledger, pending, longer);
+        let step = study.step(&test, &mut longer, &mut pending);
+        is_refused(&rt, step, Fault::OtherLists, 16, Layer::Study);
+        let step = study.step(&test, &mut ledger, &mut longer);
+        is_refused(&rt, step, Fault::OtherLists, 16, Layer::Study);
+        assert!(rt; (see(&study), ledger, pending, longer) == before);
+        Ok(())
+    }
+
     // The calls as data do what the methods do.
     #[test]
     fn takes_calls(rt: HostRuntime) -> Result<(), Fail> {
