@@ -1,6 +1,10 @@
 pub mod Answered
 pub mod Claimed
 pub mod Counted
+pub mod DeterminedGrowths
+pub mod DeterminedMoments
+pub mod DeterminedSearches
+pub mod DeterminedSteps
 pub mod Ended
 pub mod Full
 pub mod Levelled

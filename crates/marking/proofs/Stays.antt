@@ -30,7 +30,7 @@ use Rattle.marking.specs.declared.report.Verdict.{Verdict}
 use Rattle.marking.specs.declared.report.Verdict.TheVariants as verdict
 use Rattle.marking.specs.Reports.{answer_of, RowsOf, SearchedTo, ShowsStudy, LevelsOf, LevelsIn, verdict_of, names_of, Promises}
 
-answer_laws : Laws answer_of
+pub answer_laws : Laws answer_of
 answer_laws = over_laws named_laws
 
 module _ (t : Overhead NamedTest) where
@@ -42,7 +42,7 @@ module _ (t : Overhead NamedTest) where
   stepped_table room before after (splits u some open' closed grows has few leaves) = leaves.table
   stepped_table room before after (stops u some open' closed grows lacks ends) = ends.table
 
-  leads_table : (room : Room) (before : Moment) → HasRoom room before → {n : ℕ} {after : Moment} → Leads answer_of t room before n after → (after.study.table ≡ before.study.table) × KeepsAt answer_of t after
+  pub leads_table : (room : Room) (before : Moment) → HasRoom room before → {n : ℕ} {after : Moment} → Leads answer_of t room before n after → (after.study.table ≡ before.study.table) × KeepsAt answer_of t after
   leads_table room before has (begins {after} begun) =
       let on = begin_accepted before after room has begun in
       (on.2.table, begun_keeps answer_of t on.0 before after on.1 on.2)
