@@ -55,7 +55,7 @@ module _ (t : Overhead NamedTest) where
     same_table : after.table ≡ before.table
     same_table = ap (λ (s : Study). s.table) (sym search.ends) ∙ (leads_table _ search.first search.room search.searched.leads).0 ∙ ap (λ (s : Study). s.table) search.begins
 
-    last_rows : rows_of search.last ≡ view before.table
+    pub last_rows : rows_of search.last ≡ view before.table
     last_rows = ap (λ (s : Study). view s.table) search.ends ∙ ap (λ (u : Table Row). view u) same_table
 
     shown_order : (f : Finding) → after.state ≡ state.Found f → Order (length (view before.table)) (take (length (view before.table)) f.order) × Holds answer_of t (view before.table) (take (length (view before.table)) f.order)
