@@ -2,6 +2,14 @@ pub mod Alike
 pub mod Answered
 pub mod Claimed
 pub mod Counted
+pub mod DeterminedCases
+pub mod DeterminedGrowths
+pub mod DeterminedMoments
+pub mod DeterminedOutcomes
+pub mod DeterminedReports
+pub mod DeterminedSearches
+pub mod DeterminedSheets
+pub mod DeterminedSteps
 pub mod Ended
 pub mod Faults
 pub mod Full

@@ -30,7 +30,7 @@ use Rattle.marking.specs.declared.report.Verdict.{Verdict}
 use Rattle.marking.specs.declared.report.Verdict.TheVariants as verdict
 use Rattle.marking.specs.Reports.{answer_of, RowsOf, SearchedTo, ShowsStudy, LevelsOf, LevelsIn, verdict_of, names_of, Promises}
 
-answer_laws : Laws answer_of
+pub answer_laws : Laws answer_of
 answer_laws = over_laws named_laws
 
 module _ (t : Overhead NamedTest) where
@@ -42,7 +42,7 @@ module _ (t : Overhead NamedTest) where
   stepped_table room before after (splits u some open' closed grows has few leaves) = leaves.table
   stepped_table room before after (stops u some open' closed grows lacks ends) = ends.table
 
-  leads_table : (room : Room) (before : Moment) → HasRoom room before → {n : ℕ} {after : Moment} → Leads answer_of t room before n after → (after.study.table ≡ before.study.table) × KeepsAt answer_of t after
+  pub leads_table : (room : Room) (before : Moment) → HasRoom room before → {n : ℕ} {after : Moment} → Leads answer_of t room before n after → (after.study.table ≡ before.study.table) × KeepsAt answer_of t after
   leads_table room before has (begins {after} begun) =
       let on = begin_accepted before after room has begun in
       (on.2.table, begun_keeps answer_of t on.0 before after on.1 on.2)
@@ -55,7 +55,7 @@ module _ (t : Overhead NamedTest) where
     same_table : after.table ≡ before.table
     same_table = ap (λ (s : Study). s.table) (sym search.ends) ∙ (leads_table _ search.first search.room search.searched.leads).0 ∙ ap (λ (s : Study). s.table) search.begins
 
-    last_rows : rows_of search.last ≡ view before.table
+    pub last_rows : rows_of search.last ≡ view before.table
     last_rows = ap (λ (s : Study). view s.table) search.ends ∙ ap (λ (u : Table Row). view u) same_table
 
     shown_order : (f : Finding) → after.state ≡ state.Found f → Order (length (view before.table)) (take (length (view before.table)) f.order) × Holds answer_of t (view before.table) (take (length (view before.table)) f.order)

@@ -1,0 +1,38 @@
+-- A text is read as one sheet: the same columns and the same fields.
+use Rattle.std.proofs.Common.{◌≡◌, ℕ, ◌+◌, Bool, cond, not, List, [], ◌∷◌, map, drop, Ok, refl, sym, ap, ◌∙◌}
+use Rattle.std.specs.List.{position_or_len}
+use Rattle.std.specs.Str.{bytes_eq}
+use Rattle.table.specs.Places.{nth}
+use Rattle.sheets.specs.declared.form.Column.{Column}
+use Rattle.sheets.specs.declared.form.Form.{Form}
+use Rattle.sheets.specs.declared.sheet.Sheet.{Sheet}
+use Rattle.sheets.specs.Forms.{name_of}
+use Rattle.sheets.specs.Sheets.{order_of, values_of, left_of, field_of, ReadsText}
+use Rattle.sheets.proofs.Cuts.{one_text}
+
+-- two sheets are alike: the same names of columns, and the same value lines
+pub record SameSheet (s u : Sheet) : Type 0 where
+  pub names : map name_of (order_of s) ≡ map name_of (order_of u)
+  pub values : values_of s ≡ values_of u
+
+pub one_sheet : (form : Form) (text : List ℕ) (s u : Sheet) → ReadsText form text (Ok s) → ReadsText form text (Ok u) → SameSheet s u
+one_sheet form text s u (lines, order, is, shows) (lines', order', is', shows') =
+    let same = one_text text lines lines' is.cut is'.cut in
+    record {
+      names = ap (map name_of) shows.1 ∙ sym is.heads.named ∙ ap (λ (x : List (List (List ℕ))). nth x 1 []) same ∙ is'.heads.named ∙ sym (ap (map name_of) shows'.1);
+      values = shows.2 ∙ ap (λ (x : List (List (List ℕ))). drop 1 x) same ∙ sym shows'.2;
+    }
+
+-- the first place by a name, among the names
+place_by_name : (test : List ℕ → Bool) (order : List Column) → position_or_len (λ c. test (name_of c)) order ≡ position_or_len test (map name_of order)
+place_by_name test [] = refl
+place_by_name test (c ∷ order) = ap (λ n. cond (not (test (name_of c))) (1 + n) 0) (place_by_name test order)
+
+module _ (s u : Sheet) (same : SameSheet s u) where
+  same_left : (c : Column) → left_of s c ≡ left_of u c
+  same_left c =
+      let test : List ℕ → Bool = λ name. bytes_eq name (name_of c) in
+      place_by_name test (order_of s) ∙ ap (position_or_len test) same.names ∙ sym (place_by_name test (order_of u))
+
+  pub same_field : (k : ℕ) (c : Column) → field_of s k c ≡ field_of u k c
+  same_field k c = ap (λ (x : List (List (List ℕ))). nth (nth x k []) (left_of s c + 1) []) same.values ∙ ap (λ i. nth (nth (values_of u) k []) (i + 1) []) (same_left c)
