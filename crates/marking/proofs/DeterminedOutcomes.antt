@@ -15,17 +15,11 @@ use Rattle.sheets.proofs.Ordered.{pairs_in_order}
 use Rattle.marking.specs.Questions.{IsPaired}
 use Rattle.marking.specs.declared.report.Outcome.{Outcome}
 use Rattle.marking.specs.declared.report.Outcome.TheVariants as outcome
-use Rattle.marking.specs.Reports.{AnswerOf, OutcomeOf}
+use Rattle.marking.specs.Reports.{SameOutcome, AnswerOf, OutcomeOf}
 use Rattle.marking.proofs.Answered.{nth_taken}
 use Rattle.marking.proofs.Claimed.{one_row}
 use Rattle.marking.proofs.DeterminedSheets.{SameSheet, same_field}
 use Rattle.marking.proofs.DeterminedCases.{same_number, same_count}
-
--- two outcomes are the same: both pass, or both name the same task with the same bound
-abbrev pub SameOutcome : Outcome → Outcome → Type 0
-SameOutcome outcome.Passes outcome.Passes = Unit {0}
-SameOutcome (outcome.Fails task bound) (outcome.Fails other given) = (task.now ≡ other.now) × (bound ≡ given)
-SameOutcome o p = ⊥
 
 module _ {T : Type 0} (answer : T → List Row → ℕ → List Bool → List ℕ → Option ℕ) (t : T) (rows : List Row) (order estimates : List ℕ) where
   same_miss : (a b : Miss) → a.task ≡ b.task → a.bound ≡ b.bound → a ≡ b

@@ -18,25 +18,13 @@ use Rattle.study.specs.Searches.{Searched}
 use Rattle.marking.proofs.Stays.{last_rows}
 use Rattle.table.proofs.View.{few_rows}
 use Rattle.bounds.specs.Orders.{FirstMiss}
-use Rattle.marking.proofs.DeterminedOutcomes.{SameOutcome, one_miss, one_order, one_estimates, outcome_alike}
-use Rattle.marking.specs.Reports.{OutcomeOf, answer_of, slots, names_of, verdict_of, LevelsIn, BlankPast, ShowsStudy, Marked}
+use Rattle.marking.proofs.DeterminedOutcomes.{one_miss, one_order, one_estimates, outcome_alike}
+use Rattle.marking.specs.Reports.{SameLevels, SameShown, SameOutcome, SameReport, OutcomeOf, answer_of, slots, names_of, verdict_of, LevelsIn, BlankPast, ShowsStudy, Marked}
 use Rattle.marking.proofs.DeterminedSteps.{SameFinding}
 use Rattle.marking.proofs.DeterminedMoments.{SameState, same_state, same_found, Alike}
 use Rattle.marking.proofs.DeterminedSearches.{searched_alike}
 use Rattle.marking.proofs.DeterminedSheets.{SameSheet, one_sheet, same_field}
 use Rattle.marking.proofs.DeterminedCases.{one_test, same_count, one_rows}
-
--- two lists of names, and two of estimates, are the same on every level
-abbrev pub SameLevels : List (List ℕ) → List (List ℕ) → List ℕ → List ℕ → Type 0
-SameLevels names others estimates numbers = (k : ℕ) → 1 ≤ k → (nth names k [] ≡ nth others k []) × (nth estimates k 0 ≡ nth numbers k 0)
-
--- two reports show the same of a search
-pub record SameReport (r q : Report) : Type 0 where
-  pub verdict : r.verdict ≡ q.verdict
-  pub ranges : r.ranges ≡ q.ranges
-  pub steps : r.steps ≡ q.steps
-  pub levels : r.levels ≡ q.levels
-  pub shown : SameLevels (names_of r) (names_of q) r.estimates q.estimates
 
 verdict_alike : (n : ℕ) (s u : State) → SameState n s u → verdict_of s ≡ verdict_of u
 verdict_alike n s u (same_state v) = refl
@@ -75,7 +63,7 @@ module _ (tasks other : Sheet) (same : SameSheet tasks other) (n m : ℕ) (names
   levels_alike s u (same_found f g both) a b = levels_found f g both a b
 
 -- what two searches of the same rows show is the same
-shown_alike : (tasks other : Sheet) → SameSheet tasks other → (a b : Moment) → length (rows_of a) ≡ count_of tasks → Alike a b → (r q : Report) → ShowsStudy tasks a.study r → ShowsStudy other b.study q → SameReport r q
+shown_alike : (tasks other : Sheet) → SameSheet tasks other → (a b : Moment) → length (rows_of a) ≡ count_of tasks → Alike a b → (r q : Report) → ShowsStudy tasks a.study r → ShowsStudy other b.study q → SameShown r q
 shown_alike tasks other same a b size alike r q one two =
     let states : SameState (count_of tasks) a.study.state b.study.state = subst (λ n. SameState n a.study.state b.study.state) size alike.state in
     let levels = levels_alike tasks other same r.levels q.levels (names_of r) (names_of q) r.estimates q.estimates a.study.state b.study.state states one.levels two.levels in
@@ -112,7 +100,7 @@ module _ (x y z : List ℕ) (r q : Report) (one : Marked x y z r) (two : Marked 
       (subst (λ t. Searched answer_of t slots search'.first search'.last) (sym same_test) search'.searched)
 
   -- what two reports on three texts show of the search is the same
-  pub same_shown : SameReport r q
+  pub same_shown : SameShown r q
   same_shown =
       let search = one.reports.searched in
       let search' = two.reports.searched in
@@ -137,3 +125,6 @@ module _ (x y z : List ℕ) (r q : Report) (one : Marked x y z r) (two : Marked 
       (subst (λ x. FirstMiss answer_of two.test (view two.reports.before.table) other.order x other.miss) (sym estimates) other.first))) in
       let miss : own.miss ≡ other.miss = one_miss answer_of one.test rows own.order own.estimates own.miss other.miss own.first first in
       outcome_alike one.tasks two.tasks same_tasks own.miss r.outcome q.outcome own.outcome (subst (λ x. OutcomeOf two.tasks x q.outcome) (sym miss) other.outcome)
+
+  pub one_report : SameReport r q
+  one_report = (same_shown, same_outcome)

@@ -177,3 +177,25 @@ Refused x y z fault = TextsMiss x y z fault ⊎ ((board tasks answer : Sheet) ×
 -- marking three texts: a report, or the first fault
 abbrev pub Marks : List ℕ → List ℕ → List ℕ → Result Report Fault → Type 0
 Marks x y z r = MatchResult r (Marked x y z) (Refused x y z)
+
+-- two lists of names, and two of estimates, are the same on every level
+abbrev pub SameLevels : List (List ℕ) → List (List ℕ) → List ℕ → List ℕ → Type 0
+SameLevels names others estimates numbers = (k : ℕ) → 1 ≤ k → (nth names k [] ≡ nth others k []) × (nth estimates k 0 ≡ nth numbers k 0)
+
+-- two reports show the same of a search
+pub record SameShown (r q : Report) : Type 0 where
+  pub verdict : r.verdict ≡ q.verdict
+  pub ranges : r.ranges ≡ q.ranges
+  pub steps : r.steps ≡ q.steps
+  pub levels : r.levels ≡ q.levels
+  pub shown : SameLevels (names_of r) (names_of q) r.estimates q.estimates
+
+-- two outcomes are the same: both pass, or both name the same task with the same bound
+abbrev pub SameOutcome : Outcome → Outcome → Type 0
+SameOutcome outcome.Passes outcome.Passes = Unit {0}
+SameOutcome (outcome.Fails task bound) (outcome.Fails other given) = (task.now ≡ other.now) × (bound ≡ given)
+SameOutcome o p = ⊥
+
+-- two reports say the same
+abbrev pub SameReport : Report → Report → Type 0
+SameReport r q = SameShown r q × SameOutcome r.outcome q.outcome

@@ -1,6 +1,7 @@
 use Rattle.std.proofs.Common.{sym, subst, inr}
 use Rattle.std.proofs.lemmas.Result.{err_from_is_err_and}
 use Rattle.marking.specs.Reports.{Marks}
+use Rattle.marking.proofs.DeterminedReports.{one_report}
 use Rattle.marking.proofs.Singles.{one_refusal, no_refusal}
 use Rattle.marking.proofs.mark.mark.Goals as goal
 
@@ -45,3 +46,12 @@ returns-in_err-case-clause-either c = no_refusal c.args.board.now c.args.tasks.n
 
 pub returns-clause-either : goal.returns-clause-either
 returns-clause-either c = no_refusal c.args.board.now c.args.tasks.now c.args.answer.now
+
+pub returns-in_err-board-clause-same : goal.returns-in_err-board-clause-same
+returns-in_err-board-clause-same c = one_report c.args.board.now c.args.tasks.now c.args.answer.now
+
+pub returns-in_err-case-clause-same : goal.returns-in_err-case-clause-same
+returns-in_err-case-clause-same c = one_report c.args.board.now c.args.tasks.now c.args.answer.now
+
+pub returns-clause-same : goal.returns-clause-same
+returns-clause-same c = one_report c.args.board.now c.args.tasks.now c.args.answer.now
