@@ -17,7 +17,7 @@ use Rattle.study.specs.Turns.{lows_of, GrowsTo, Finds}
 use Rattle.study.specs.Steps.{taken_of, keep, Leaves, Stepped, none, keeps, full, finds, splits, stops}
 use Rattle.study.proofs.Turned.{lows_within}
 use Rattle.marking.proofs.Answered.{nth_taken}
-use Rattle.marking.proofs.DeterminedGrowths.{one_growth}
+use Rattle.orders.proofs.OneGrowth.{one_growth}
 
 -- two findings are alike on n rows: the same order of them, and the same estimates
 pub record SameFinding (n : ℕ) (f g : Finding) : Type 0 where

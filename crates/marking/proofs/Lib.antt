@@ -3,7 +3,6 @@ pub mod Answered
 pub mod Claimed
 pub mod Counted
 pub mod DeterminedCases
-pub mod DeterminedGrowths
 pub mod DeterminedMoments
 pub mod DeterminedOutcomes
 pub mod DeterminedReports

@@ -2,9 +2,9 @@
 ghost use Rattle.table.specs.Rows.{view};
 ghost use Rattle.orders.specs.Growth.{Grown, GivenBack, GrownMaximal, Narrowing};
 
-use crate::closed::ClosedRange;
-use crate::end::End;
 use crate::range::Range;
+use crate::settle::settle;
+use crate::settled::Settled;
 use bounds::test::Test;
 use table::row::Row;
 use table::rows::Table;
@@ -18,12 +18,8 @@ pub fn grow<T: Test>(test: &T, table: &Table<Row>, range: &Range) -> Range
     ensures maximal { GrownMaximal T.answer test.now (view table.now) range.now result }
     ensures narrowing { Narrowing T.answer test.now (view table.now) }
 {
-    let Some(mut grown) = ClosedRange::new(test, table, *range) else {
-        return *range;
-    };
-    // The place is an argument, and no slice is read: an iterator would be no plainer.
-    for place in 0..table.len() {
-        grown = grown.grow_end(End::Low, place).grow_end(End::High, place);
+    match settle(test, table, range) {
+        Settled::Order(_) => *range,
+        Settled::Grown(grown) => grown,
     }
-    grown.range
 }

@@ -5,3 +5,5 @@ mod closed;
 mod end;
 pub mod grow;
 pub mod range;
+pub mod settle;
+pub mod settled;

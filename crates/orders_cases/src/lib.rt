@@ -10,6 +10,8 @@ mod tests {
     use orders::assign::assign;
     use orders::grow::grow;
     use orders::range::Range;
+    use orders::settle::settle;
+    use orders::settled::Settled;
     use std::array;
     use std::test::Fail;
     use table::fault::Fault;
@@ -535,11 +537,12 @@ mod tests {
         Ok(table)
     }
 
-    // The order that the assigner gives, if any, and the range that growth gives.
+    // The order that the assigner gives, if any, the range that growth gives, and the one of both that settling gives.
     #[derive(Clone, Copy, PartialEq, Debug)]
     struct Found {
         order: Option<[usize; 32]>,
         grown: Range,
+        settled: Settled,
     }
 
     // What is found in a range of a table.
@@ -547,14 +550,21 @@ mod tests {
         Found {
             order: assign(test, table, range),
             grown: grow(test, table, range),
+            settled: settle(test, table, range),
         }
     }
 
     // What is to be found: an order, if any, and a range.
     fn wanted(order: Option<&[usize]>, grown: Range) -> Found {
+        let order = order.map(|tasks| padded(tasks, 0));
+        let settled = match order {
+            Some(order) => Settled::Order(order),
+            None => Settled::Grown(grown),
+        };
         Found {
-            order: order.map(|tasks| padded(tasks, 0)),
+            order,
             grown,
+            settled,
         }
     }
 

@@ -20,7 +20,7 @@ use Rattle.study.specs.Turns.{lows_of, GrowsTo, Finds}
 use Rattle.study.specs.Steps.{Runs, taken_of, Stepped, Steps, none, keeps, full, finds, splits, stops}
 use Rattle.study.proofs.Overs.{Full, put_slot_back}
 use Rattle.study.proofs.Runs.{EachFull, put_slots_back}
-use Rattle.worked.proofs.Growths.{grown_same}
+use Rattle.orders.proofs.OneGrowth.{one_growth}
 use Rattle.study.proofs.Lawful.{room_of, KeepsAt, begun_keeps, stepped_keeps, ready}
 
 module _ {T : Type 0} (answer : T → List Row → ℕ → List Bool → List ℕ → Option ℕ) (t : T) where
@@ -118,7 +118,7 @@ module _ {T : Type 0} (answer : T → List Row → ℕ → List Bool → List �
           elim did [
             | none nothing ends ↦ absurd (omega (arith, nothing, on.pending, waits))
             | keeps grown some closed' grows' room_left leaves ↦
-                let is : grown ≡ q = grown_same answer t rows taken (known on (λ rs x. GrowsTo answer t rs x grown) grows') grows in
+                let is : grown ≡ q = one_growth answer t rows taken (known on (λ rs x. GrowsTo answer t rs x grown) grows') grows in
                 let count : after.study.ledger ≡ n + 1 = leaves.ledger ∙ ap (λ i. i + 1) on.ledger in (
                   count,
                   written q wide (leaves.ledger_list ∙ ap (put_slot at.ledger (at.study.ledger + 1)) is),
@@ -143,7 +143,7 @@ module _ {T : Type 0} (answer : T → List Row → ℕ → List Bool → List �
           → (after.study.ledger ≡ n + 1) × (slot after.ledger (n + 1) ≡ u) × On rows room (n + 1) (m - 1 + length ps) (get_or ps (length ps - 1) u) after
       does_split u ps wide each any opens closed grows cut enough =
           let divided : (v : Range) → GrowsTo answer t (rows_of at) (lows_of (taken_of at)) v → (v ≡ u) × (pieces (taken_of at) v (length (rows_of at)) ≡ ps) = λ v grows'.
-          let is : v ≡ u = grown_same answer t rows (lows_of taken) (known on (λ rs x. GrowsTo answer t rs (lows_of x) v) grows') grows in
+          let is : v ≡ u = one_growth answer t rows (lows_of taken) (known on (λ rs x. GrowsTo answer t rs (lows_of x) v) grows') grows in
           (is, ap (pieces (taken_of at) v) (ap length on.rows_are) ∙ ap₂ (λ x w. pieces x w (length rows)) on.taken_is is ∙ cut) in
           elim did [
             | none nothing ends ↦ absurd (omega (arith, nothing, on.pending, waits))

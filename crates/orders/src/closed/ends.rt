@@ -1,7 +1,8 @@
 // The ends of a closed range, moved out while it stays closed.
-ghost use Rattle.std.specs.Prelude.{◌≡◌, ◌+◌, ◌*◌, ◌<◌, ◌≤◌, length, IfSome, IfNone};
+ghost use Rattle.std.specs.Prelude.{◌≡◌, ◌+◌, ◌*◌, ◌<◌, ◌≤◌, length, IfOk, IfErr, None};
 ghost use Rattle.table.specs.Rows.{view};
-ghost use Rattle.orders.specs.Growth.{moved as moved_out, reach as reach_of, EndGrown};
+ghost use Rattle.orders.specs.Assigner.{Assigns, FillsLowest};
+ghost use Rattle.orders.specs.Growth.{moved as moved_out, reach as reach_of, EndGrown, GrownTo};
 ghost use Rattle.orders.specs.Ranges.{Within, Closed};
 
 use super::ClosedRange;
@@ -13,17 +14,23 @@ use table::row::Row;
 use table::rows::Table;
 
 impl<'a, T: Test> ClosedRange<'a, T> {
-    // The range, where it is a range of the table and closed.
-    pub(crate) fn new(test: &'a T, table: &'a Table<Row>, range: Range) -> Option<Self>
-        ensures some { IfSome result (λ q.
-            (q.test.now ≡ test.now) × (q.table.now ≡ table.now) × (q.range ≡ range)) }
-        ensures none { let rows = view table.now in
-            IfNone result (Within rows range → Closed T.answer test.now rows range → ⊥) }
+    // The range, where it is a range of the table and closed; or else the assigner's order for it, if there is one.
+    pub(crate) fn new(
+        test: &'a T,
+        table: &'a Table<Row>,
+        range: Range,
+    ) -> Result<Self, Option<[usize; 32]>>
+        ensures ok { IfOk result (λ q.
+            (q.test.now ≡ test.now) × (q.table.now ≡ table.now) × (q.range ≡ range)
+            × Assigns T.answer test.now (view table.now) range None) }
+        ensures err { let rows = view table.now in
+            IfErr result (λ order. Assigns T.answer test.now rows range order × FillsLowest T.answer test.now rows range order
+            × (Within rows range → Closed T.answer test.now rows range → ⊥)) }
     {
-        if !is_range(table, &range) || assign(test, table, &range).is_some() {
-            return None;
+        match assign(test, table, &range) {
+            None if is_range(table, &range) => Ok(ClosedRange { test, table, range }),
+            order => Err(order),
         }
-        Some(ClosedRange { test, table, range })
     }
 
     // How far an end of the row at a place may be moved out. End and place stay two parameters: a type that
@@ -100,13 +107,26 @@ impl<'a, T: Test> ClosedRange<'a, T> {
             let step = grown.step_in(round, end, place, room);
             let wider = grown.moved(end, place, step);
             match ClosedRange::new(grown.test, grown.table, wider) {
-                Some(wider) => {
+                Ok(wider) => {
                     grown = wider;
                     room -= step;
                 }
-                None => room = step - 1,
+                Err(_) => room = step - 1,
             }
         }
         grown
+    }
+
+    // The range with its ends moved out: row by row its low, and then its high.
+    pub(crate) fn grow(self) -> Range
+        ensures grown { let rows = view self.entry.table.now in
+            GrownTo T.answer self.entry.test.now rows self.entry.range (length rows) result }
+    {
+        let mut grown = self;
+        // The place is an argument, and no slice is read: an iterator would be no plainer.
+        for place in 0..grown.table.len() {
+            grown = grown.grow_end(End::Low, place).grow_end(End::High, place);
+        }
+        grown.range
     }
 }

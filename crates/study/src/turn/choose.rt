@@ -6,9 +6,9 @@ ghost use Rattle.study.specs.Turns.{Turns};
 use super::Turn;
 use crate::finding::Finding;
 use bounds::test::Test;
-use orders::assign::assign;
-use orders::grow::grow;
 use orders::range::Range;
+use orders::settle::settle;
+use orders::settled::Settled;
 use table::row::Row;
 use table::rows::Table;
 
@@ -18,19 +18,19 @@ impl Turn {
         requires { Within (view table.now) taken.now }
         ensures { Turns T.answer test.now (view table.now) taken.now result }
     {
-        if assign(test, table, taken).is_none() {
-            return Turn::Keep(grow(test, table, taken));
+        if let Settled::Grown(grown) = settle(test, table, taken) {
+            return Turn::Keep(grown);
         }
         let lows = Range {
             lows: taken.lows,
             highs: taken.lows,
         };
-        match assign(test, table, &lows) {
-            Some(order) => Turn::Find(Finding {
+        match settle(test, table, &lows) {
+            Settled::Order(order) => Turn::Find(Finding {
                 order,
                 estimates: taken.lows,
             }),
-            None => Turn::Split(grow(test, table, &lows)),
+            Settled::Grown(bound) => Turn::Split(bound),
         }
     }
 }

@@ -5,7 +5,7 @@ use Rattle.orders.specs.Growth.{reach, moved}
 use Rattle.orders.specs.Ranges.{Within, Closed}
 use Rattle.orders.proofs.Grows.{MovedOut, narrowed, out_none, short, room_left, out_more, out_less, end_grown}
 use Rattle.orders.proofs.closed.ClosedRange.grow_end.Goals as goal
-use Rattle.orders.proofs.closed.ClosedRange.grow_end.Goals.{in-Some, in-None}
+use Rattle.orders.proofs.closed.ClosedRange.grow_end.Goals.{in-Ok, in-Err}
 
 pub loop-round-init : goal.loop-round-init
 loop-round-init g c =
@@ -32,12 +32,12 @@ loop-round-preserved g c =
     let wider = moved c.args.end q (c.args.place + 1) step in
     let less = λ (left : ℕ). narrowed c.loop-round.round c.loop-round.room step left c.loop-round-test.true c.loop-round.invariant.3 c.step_in-step.ensures.within.0 c.step_in-step.ensures.within.1 c.step_in-step.ensures.halves in
     elim c.match-new.branch [
-      | in-Some w ↦
-          let made = w.in-Some.ensures.some in
-          let out = out_more g.met.T.Test.kept s.test.now rows (few_rows s.table.now) c.args.end s.range s.within c.args.place c.requires c.loop-round.room step q w.in-Some.wider.range c.loop-round.invariant.2 (omega (arith, c.step_in-step.ensures.within.0, c.step_in-step.ensures.within.1)) (made.2 ∙ c.moved-wider.ensures) in
+      | in-Ok w ↦
+          let made = w.in-Ok.ensures.ok in
+          let out = out_more g.met.T.Test.kept s.test.now rows (few_rows s.table.now) c.args.end s.range s.within c.args.place c.requires c.loop-round.room step q w.in-Ok.wider.range c.loop-round.invariant.2 (omega (arith, c.step_in-step.ensures.within.0, c.step_in-step.ensures.within.1)) (made.2 ∙ c.moved-wider.ensures) in
           rw (w.grown-is, w.room-is) (made.0 ∙ c.loop-round.invariant.0, made.1 ∙ c.loop-round.invariant.1, out, less _ (inl refl))
-      | in-None w ↦
-          let opened : Within rows wider → Closed g.T.Test.answer s.test.now rows wider → ⊥ = rw (c.moved-wider.ensures, c.loop-round.invariant.0, c.loop-round.invariant.1) at w.in-None.ensures.none in
+      | in-Err w ↦
+          let opened : Within rows wider → Closed g.T.Test.answer s.test.now rows wider → ⊥ = rw (c.moved-wider.ensures, c.loop-round.invariant.0, c.loop-round.invariant.1) at w.in-Err.ensures.err.2 in
           let out = out_less g.met.T.Test.kept s.test.now rows (few_rows s.table.now) c.args.end s.range s.within c.args.place c.requires c.loop-round.room step q c.loop-round.invariant.2 (omega (arith, c.step_in-step.ensures.within.0, c.step_in-step.ensures.within.1)) (omega (arith, c.step_in-step.ensures.within.0, c.step_in-step.ensures.within.1)) opened in
           rw (w.grown-is, w.room-is) (c.loop-round.invariant.0, c.loop-round.invariant.1, out, less _ (inr refl))
     ]

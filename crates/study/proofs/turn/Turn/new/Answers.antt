@@ -1,14 +1,12 @@
-use Rattle.std.proofs.Common.{Some, refl}
+use Rattle.std.proofs.Common.{length, take, refl}
 use Rattle.table.specs.Rows.{view}
-use Rattle.study.specs.Turns.{lows_of}
-use Rattle.study.proofs.Turned.{lows_within, open_by}
+use Rattle.study.proofs.Turned.{lows_within}
 use Rattle.study.proofs.turn.Turn.new.Goals as goal
 
-pub returns-in-Some : goal.returns-in-Some
-returns-in-Some g c =
-    let rows = view c.args.table.now in
-    let taken = c.args.taken.now in (
-      open_by g.T.Test.answer c.args.test.now rows taken c.assign.result c.assign.ensures.decides c.requires c.if-is_none.ensures,
-      open_by g.T.Test.answer c.args.test.now rows (lows_of taken) (Some c.in-Some.order) c.in-Some.ensures.decides (lows_within rows taken c.requires) refl,
-      (c.in-Some.ensures.rule, refl),
+pub returns-in-Order : goal.returns-in-Order
+returns-in-Order g c =
+    let rows = view c.args.table.now in (
+      (take (length rows) c.in_default.field-0, c.in_default.ensures.decides c.requires),
+      (take (length rows) c.in-Order.order, c.in-Order.ensures.decides (lows_within rows c.args.taken.now c.requires)),
+      (c.in-Order.ensures.order, refl),
     )
