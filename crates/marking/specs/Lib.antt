@@ -1,3 +1,4 @@
 pub mod Questions
 pub mod Rendered
+pub mod Printed
 pub mod Reports

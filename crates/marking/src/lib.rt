@@ -5,6 +5,7 @@ mod case;
 mod claims;
 mod fields;
 pub mod mark;
+pub mod print;
 pub mod render;
 pub mod report;
 mod rows;

@@ -1,0 +1,4 @@
+#![tactic(auto)]
+
+pub mod print;
+pub mod read;
