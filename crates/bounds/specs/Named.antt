@@ -23,9 +23,13 @@ IsNamed name m (ByDeadline t) = (name ≡ codes "da") × (t.processors.count ≡
 IsNamed name m (ByResponse t) = (name ≡ codes "rta") × (t.processors.count ≡ m)
 IsNamed name m (ByLimited t) = (name ≡ codes "lc") × (t.processors.count ≡ m)
 
+-- a test has this name
+abbrev pub IsTestName : List ℕ → Type 0
+IsTestName name = (name ≡ codes "da") ⊎ ((name ≡ codes "rta") ⊎ (name ≡ codes "lc"))
+
 -- the test is known, and m is allowed
 abbrev pub Known : List ℕ → ℕ → Type 0
-Known name m = ((name ≡ codes "da") ⊎ ((name ≡ codes "rta") ⊎ (name ≡ codes "lc"))) × Allowed m
+Known name m = IsTestName name × Allowed m
 
 -- making the test of a name on m processors: just that, or a refusal
 abbrev pub MadeNamed : List ℕ → ℕ → Result NamedTest Fault → Type 0

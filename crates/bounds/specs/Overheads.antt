@@ -1,5 +1,5 @@
 -- An overhead: a test over another that adds a number to its answer.
-use Rattle.std.specs.Prelude.{◌≡◌, ℕ, ◌+◌, ◌≤◌, List, Some, None, Ok, Err, Option, Result}
+use Rattle.std.specs.Prelude.{◌≡◌, ℕ, ◌+◌, ◌≤◌, Bool, List, Some, None, Ok, Err, Option, Result}
 use Rattle.table.specs.declared.row.Row.{Row}
 use Rattle.table.specs.declared.fault.Fault.{Fault}
 use Rattle.table.specs.declared.fault.Fault.TheVariants.{BadTest}
@@ -13,6 +13,10 @@ use Rattle.bounds.specs.Questions.{timely}
 abbrev pub over : ℕ → List Row → ℕ → Option ℕ → Option ℕ
 over added rows i None = None
 over added rows i (Some bound) = timely (row rows i).deadline (bound + added)
+
+-- what an overhead over a test answers
+abbrev pub over_answer : {T : Type 0} → (T → List Row → ℕ → List Bool → List ℕ → Option ℕ) → Overhead T → List Row → ℕ → List Bool → List ℕ → Option ℕ
+over_answer answer o rows i above estimates = over o.added rows i (answer o.below rows i above estimates)
 
 -- making an overhead of V over a test: V is at most 1,000,000, or a refusal
 abbrev pub MadeOverhead : {T : Type 0} → ℕ → T → Result (Overhead T) Fault → Type 0

@@ -17,7 +17,8 @@ use Rattle.sheets.specs.Sheets.{order_of, values_of, left_of, field_of, ReadsTex
 use Rattle.sheets.specs.Pairs.{count_of, task_of, IsNew, HasTaskAt, HasTask, Answers, IsAnswered, EachLine, FirstLine, PairMisses}
 use Rattle.sheets.proofs.Columns.{one_order}
 use Rattle.sheets.proofs.Cuts.{one_text}
-use Rattle.marking.specs.Questions.{number_of, IsTestName, Suits, HasTest, TestMisses, HasRow, RowMisses, HasEstimate, EstimateMisses, IsPaired, SheetsMiss, by_test, by_pair, by_row, by_estimate}
+use Rattle.bounds.specs.Named.{IsTestName}
+use Rattle.marking.specs.Questions.{number_under, Suits, HasTest, TestMisses, HasRow, RowMisses, HasEstimate, EstimateMisses, IsPaired, SheetsMiss, by_test, by_pair, by_row, by_estimate}
 
 -- Two sheets have one form, one order of columns and the same values.
 pub record Alike (s t : Sheet) : Type 0 where
@@ -53,7 +54,7 @@ module _ (s t : Sheet) (like : Alike s t) where
   field : (k : ℕ) (c : Column) → field_of s k c ≡ field_of t k c
   field k c = ap (λ (v : List (List (List ℕ))). nth (nth v k []) (left_of s c + 1) []) like.values ∙ ap (λ l. nth (nth (values_of t) k []) (l + 1) []) (left c)
 
-  number : (k : ℕ) (c : Column) → number_of s k c ≡ number_of t k c
+  number : (k : ℕ) (c : Column) → number_under s k c ≡ number_under t k c
   number k c = ap value (field k c)
 
   at : (line j : ℕ) → place s.form line j ≡ place t.form line j
@@ -104,8 +105,8 @@ module _ (s t : Sheet) (tasks : Alike s t) (u v : Sheet) (answer : Alike u v) wh
   has_estimate : (k : ℕ) → HasEstimate s u k → HasEstimate t v k
   has_estimate k lies row there =
       let old = lies row (has_task_at t s (back s t tasks) (task_of u k) row (subst (λ name. HasTaskAt t name row) (sym (field u v answer k Task)) there)) in
-      subst (λ n. (number_of t row Wcet ≤ n) × (n ≤ number_of t row Deadline)) (number u v answer k Estimate)
-      (subst (λ (f : Column → ℕ). (f Wcet ≤ number_of u k Estimate) × (number_of u k Estimate ≤ f Deadline)) (λ i c. number s t tasks row c i) old)
+      subst (λ n. (number_under t row Wcet ≤ n) × (n ≤ number_under t row Deadline)) (number u v answer k Estimate)
+      (subst (λ (f : Column → ℕ). (f Wcet ≤ number_under u k Estimate) × (number_under u k Estimate ≤ f Deadline)) (λ i c. number s t tasks row c i) old)
 
   each_new : EachLine (IsNew s) (count_of s) → EachLine (IsNew t) (count_of t)
   each_new each = each_again (IsNew s) (IsNew t) (is_new s t tasks) (count_of s) (count_of t) (count s t tasks) each

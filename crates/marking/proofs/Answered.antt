@@ -13,8 +13,8 @@ use Rattle.bounds.specs.Orders.{Order, Estimates, FirstMiss, Checks}
 use Rattle.sheets.specs.declared.form.Column.TheVariants.{Wcet, Deadline, Estimate}
 use Rattle.sheets.specs.declared.sheet.Sheet.{Sheet}
 use Rattle.sheets.specs.Pairs.{count_of, task_of, HasTaskAt}
-use Rattle.marking.specs.Questions.{number_of}
-use Rattle.marking.specs.Reports.{CaseOf, answer_of, AnswerOf, ChecksAnswer, OutcomeOf}
+use Rattle.marking.specs.Questions.{number_under}
+use Rattle.marking.specs.Reports.{CaseOf, board_answer, AnswerOf, ChecksAnswer, OutcomeOf}
 use Rattle.marking.specs.declared.case.Case.{Case}
 use Rattle.marking.specs.declared.report.Outcome.{Outcome}
 use Rattle.marking.proofs.Claimed.{one_row, row_here}
@@ -45,7 +45,7 @@ module _ (board tasks answer : Sheet) (own : Case) (case : CaseOf board tasks an
   }
 
   -- the estimate of row k lies from its C to its D
-  row_lies : (k : ℕ) → 1 ≤ k → k ≤ count_of tasks → (number_of tasks k Wcet ≤ nth estimates k 0) × (nth estimates k 0 ≤ number_of tasks k Deadline)
+  row_lies : (k : ℕ) → 1 ≤ k → k ≤ count_of tasks → (number_under tasks k Wcet ≤ nth estimates k 0) × (nth estimates k 0 ≤ number_under tasks k Deadline)
   row_lies k low high =
       let line = case.pairs.2 k low high in
       let l = line.0 in
@@ -53,7 +53,7 @@ module _ (board tasks answer : Sheet) (own : Case) (case : CaseOf board tasks an
       let named = case.pairs.3.named l at.0 at.1 in
       let same : k ≡ nth order l 0 = one_row tasks case.pairs.0 (task_of answer l) k (nth order l 0) (low, high, sym at.2) named in
       let told = case.lie l at.0 at.1 k (low, high, sym at.2) in
-      let is : nth estimates k 0 ≡ number_of answer l Estimate = ap (λ j. nth estimates j 0) same ∙ case.held l at.0 at.1 in
+      let is : nth estimates k 0 ≡ number_under answer l Estimate = ap (λ j. nth estimates j 0) same ∙ case.estimated l at.0 at.1 in
       (omega (arith, told.0, is), omega (arith, told.1, is))
 
   answer_estimates : Estimates (view own.study.table) (take (count_of tasks) estimates)
@@ -72,16 +72,16 @@ module _ (board tasks answer : Sheet) (own : Case) (case : CaseOf board tasks an
     size = order_size;
     named = λ k low high. subst (HasTaskAt tasks (task_of answer k)) (sym (nth_taken n order k low high)) (case.pairs.3.named k low high);
     many = length-take (count_of tasks) estimates ∙ omega (arith, case.size, few, case.once.0);
-    held = λ k low high.
+    estimated = λ k low high.
         let named = case.pairs.3.named k low high in
-        ap (λ j. nth (take (count_of tasks) estimates) j 0) (nth_taken n order k low high) ∙ nth_taken (count_of tasks) estimates (nth order k 0) named.0 named.1 ∙ case.held k low high;
+        ap (λ j. nth (take (count_of tasks) estimates) j 0) (nth_taken n order k low high) ∙ nth_taken (count_of tasks) estimates (nth order k 0) named.0 named.1 ∙ case.estimated k low high;
   }
 
   abbrev rows : List Row
   rows = view own.study.table
 
   abbrev First : Option Miss → Type 0
-  First miss = FirstMiss answer_of own.test rows (take n order) (take (count_of tasks) estimates) miss
+  First miss = FirstMiss board_answer own.test rows (take n order) (take (count_of tasks) estimates) miss
 
   pub miss_row : (miss : Option Miss) → First miss → IfSome miss (λ m. (1 ≤ m.task) × (m.task ≤ count_of tasks))
   miss_row None first = tt
@@ -93,12 +93,12 @@ module _ (board tasks answer : Sheet) (own : Case) (case : CaseOf board tasks an
   answer_checked miss o first outcome = record { order = take n order; estimates = take (count_of tasks) estimates; is = is_answer; miss = miss; first = first; outcome = outcome }
 
   -- the check of the answer, of its lists as the code cuts them
-  module _ (some : 1 ≤ count_of tasks) (other : List Row) (a b : ℕ) (r : Result (Option Miss) Fault) (same : other ≡ rows) (x : a ≡ n) (y : b ≡ count_of tasks) (given : Checks answer_of own.test other (take a order) (take b estimates) r) where
-    checks : Checks answer_of own.test rows (take n order) (take (count_of tasks) estimates) r
+  module _ (some : 1 ≤ count_of tasks) (other : List Row) (a b : ℕ) (r : Result (Option Miss) Fault) (same : other ≡ rows) (x : a ≡ n) (y : b ≡ count_of tasks) (given : Checks board_answer own.test other (take a order) (take b estimates) r) where
+    checks : Checks board_answer own.test rows (take n order) (take (count_of tasks) estimates) r
     checks =
-        subst (λ q. Checks answer_of own.test q (take n order) (take (count_of tasks) estimates) r) same
-        (subst (λ m. Checks answer_of own.test other (take m order) (take (count_of tasks) estimates) r) x
-        (subst (λ m. Checks answer_of own.test other (take a order) (take m estimates) r) y given))
+        subst (λ q. Checks board_answer own.test q (take n order) (take (count_of tasks) estimates) r) same
+        (subst (λ m. Checks board_answer own.test other (take m order) (take (count_of tasks) estimates) r) x
+        (subst (λ m. Checks board_answer own.test other (take a order) (take m estimates) r) y given))
 
     checked : (miss : Option Miss) × (r ≡ Ok miss) × First miss
     checked =

@@ -7,7 +7,7 @@ use Rattle.sheets.specs.declared.form.Column.TheVariants.{Wcet, Deadline, Estima
 use Rattle.sheets.specs.declared.sheet.Sheet.{Sheet}
 use Rattle.sheets.specs.Pairs.{count_of, task_of, IsNew, HasTaskAt, EachLine, EachRowOnce, Pairs}
 use Rattle.sheets.proofs.Paired.{each_more, set_here, set_there}
-use Rattle.marking.specs.Questions.{number_of, HasEstimate}
+use Rattle.marking.specs.Questions.{number_under, HasEstimate}
 use Rattle.marking.specs.Reports.{EstimatesOf}
 
 -- a name stands in one line of the tasks sheet
@@ -28,11 +28,11 @@ module _ (tasks answer : Sheet) (order : List ℕ) (pairs : Pairs tasks answer (
   pub row_few : count_of tasks ≤ 32 → get_or order i 0 - 1 < 32
   row_few few = omega (arith, row_here.0, row_here.1)
 
-  module _ (w d e : ℕ) (ws : w ≡ number_of tasks (get_or order i 0) Wcet) (ds : d ≡ number_of tasks (get_or order i 0) Deadline) (es : e ≡ number_of answer (i + 1) Estimate) where
+  module _ (w d e : ℕ) (ws : w ≡ number_under tasks (get_or order i 0) Wcet) (ds : d ≡ number_under tasks (get_or order i 0) Deadline) (es : e ≡ number_under answer (i + 1) Estimate) where
     pub estimate_lies : w ≤ e → e ≤ d → HasEstimate tasks answer (i + 1)
     estimate_lies low high row named =
         let same = one_row tasks pairs.0 _ row (get_or order i 0) named row_here in
-        subst (λ r. (number_of tasks r Wcet ≤ number_of answer (i + 1) Estimate) × (number_of answer (i + 1) Estimate ≤ number_of tasks r Deadline)) (sym same) (omega (arith, low), omega (arith, high))
+        subst (λ r. (number_under tasks r Wcet ≤ number_under answer (i + 1) Estimate) × (number_under answer (i + 1) Estimate ≤ number_under tasks r Deadline)) (sym same) (omega (arith, low), omega (arith, high))
 
     pub estimate_not : (w ≤ e → e ≤ d → ⊥) → HasEstimate tasks answer (i + 1) → ⊥
     estimate_not none has = let lies = has (get_or order i 0) row_here in none (omega (arith, lies.0)) (omega (arith, lies.1))
@@ -42,7 +42,7 @@ module _ (tasks answer : Sheet) (order : List ℕ) (pairs : Pairs tasks answer (
         let row = get_or order i 0 in
         let at : row - 1 + 1 ≡ row = omega (arith, row_here.0) in
         let after = set estimates (row - 1) e in
-        each_more (λ k. nth after (nth order k 0) 0 ≡ number_of answer k Estimate) i
+        each_more (λ k. nth after (nth order k 0) 0 ≡ number_under answer k Estimate) i
         (λ k low high.
         let named = pairs.3.named k low (omega arith) in
         set_there estimates (row - 1) e (nth order k 0) named.0 (λ is. let same = once.1 k (i + 1) low (omega arith) (omega arith) (omega arith) (is ∙ at ∙ sym (nth_next order i 0)) in omega (arith, same)) ∙ held k low high)

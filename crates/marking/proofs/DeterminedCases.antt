@@ -17,7 +17,7 @@ use Rattle.sheets.specs.declared.sheet.Sheet.{Sheet}
 use Rattle.sheets.specs.Fields.{value}
 use Rattle.sheets.specs.Sheets.{field_of}
 use Rattle.sheets.specs.Pairs.{count_of}
-use Rattle.marking.specs.Questions.{number_of, IsTest}
+use Rattle.marking.specs.Questions.{number_under, IsTest}
 use Rattle.marking.specs.Reports.{RowsOf}
 use Rattle.marking.proofs.DeterminedSheets.{SameSheet, same_field}
 
@@ -74,14 +74,14 @@ same_overhead t u added below =
     subst (λ a. (ok : a ≤ 1000000) → t ≡ overhead a u.below ok) added
     (subst (λ b. (ok : t.added ≤ 1000000) → t ≡ overhead t.added b ok) below (λ ok. ap (overhead t.added t.below) (few_proof t.added t.ok ok))) u.ok
 
-pub same_number : (s u : Sheet) → SameSheet s u → (k : ℕ) (c : Column) → number_of s k c ≡ number_of u k c
+pub same_number : (s u : Sheet) → SameSheet s u → (k : ℕ) (c : Column) → number_under s k c ≡ number_under u k c
 same_number s u same k c = ap value (same_field s u same k c)
 
 pub one_test : (s u : Sheet) → SameSheet s u → (t o : Overhead NamedTest) → IsTest s t → IsTest u o → t ≡ o
 one_test s u same t o a b =
     same_overhead t o (a.0 ∙ same_number s u same 1 V ∙ sym b.0)
-    (one_named (field_of u 1 Test) (number_of u 1 M) t.below o.below
-    (subst (λ m. IsNamed (field_of u 1 Test) m t.below) (same_number s u same 1 M) (subst (λ name. IsNamed name (number_of s 1 M) t.below) (same_field s u same 1 Test) a.1))
+    (one_named (field_of u 1 Test) (number_under u 1 M) t.below o.below
+    (subst (λ m. IsNamed (field_of u 1 Test) m t.below) (same_number s u same 1 M) (subst (λ name. IsNamed name (number_under s 1 M) t.below) (same_field s u same 1 Test) a.1))
     b.1)
 
 pub same_count : (s u : Sheet) → SameSheet s u → count_of s ≡ count_of u

@@ -96,7 +96,7 @@ module _ (tasks other answer another : Sheet) (same : SameSheet tasks other) (sa
       let at = line.1 in
       let here : nth order l 0 ≡ k = one_row tasks paired.0 (task_of answer l) (nth order l 0) k (one.named l at.0 at.1) (low, high, sym at.2) in
       let there : nth order' l 0 ≡ k = sym (same_place l at.0 at.1) ∙ here in
-      ap (λ j. nth estimates j 0) (sym here) ∙ one.held l at.0 at.1 ∙ same_number answer another same' l Estimate ∙ sym (two.held l at.0 (omega (arith, at.1, same_count answer another same'))) ∙ ap (λ j. nth estimates' j 0) there
+      ap (λ j. nth estimates j 0) (sym here) ∙ one.estimated l at.0 at.1 ∙ same_number answer another same' l Estimate ∙ sym (two.estimated l at.0 (omega (arith, at.1, same_count answer another same'))) ∙ ap (λ j. nth estimates' j 0) there
 
   pub one_estimates : estimates ≡ estimates'
   one_estimates =

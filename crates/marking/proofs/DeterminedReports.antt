@@ -19,7 +19,7 @@ use Rattle.marking.proofs.Stays.{last_rows}
 use Rattle.table.proofs.View.{few_rows}
 use Rattle.bounds.specs.Orders.{FirstMiss}
 use Rattle.marking.proofs.DeterminedOutcomes.{one_miss, one_order, one_estimates, outcome_alike}
-use Rattle.marking.specs.Reports.{SameLevels, SameShown, SameOutcome, SameReport, OutcomeOf, answer_of, slots, names_of, verdict_of, LevelsIn, BlankPast, ShowsStudy, Marked}
+use Rattle.marking.specs.Reports.{SameLevels, SameShown, SameOutcome, SameReport, OutcomeOf, board_answer, slots, names_of, verdict_of, LevelsIn, BlankPast, ShowsStudy, Marked}
 use Rattle.marking.proofs.DeterminedSteps.{SameFinding}
 use Rattle.marking.proofs.DeterminedMoments.{SameState, same_state, same_found, Alike}
 use Rattle.marking.proofs.DeterminedSearches.{searched_alike}
@@ -46,7 +46,7 @@ module _ (tasks other : Sheet) (same : SameSheet tasks other) (n m : ℕ) (names
           | inr inside ↦
               let place = both.order k low (omega (arith, a.0.0)) in (
                 a.0.1.named k low (omega arith) ∙ ap (task_of tasks) place ∙ same_field tasks other same (nth g.order k 0) Task ∙ sym (b.0.1.named k low (omega arith)),
-                a.0.1.held k low (omega arith) ∙ ap (λ j. nth f.estimates j 0) place ∙ ap (λ (xs : List ℕ). nth xs (nth g.order k 0) 0) both.estimates ∙ sym (b.0.1.held k low (omega arith)),
+                a.0.1.estimated k low (omega arith) ∙ ap (λ j. nth f.estimates j 0) place ∙ ap (λ (xs : List ℕ). nth xs (nth g.order k 0) 0) both.estimates ∙ sym (b.0.1.estimated k low (omega arith)),
               )
         ],
       )
@@ -97,7 +97,7 @@ module _ (x y z : List ℕ) (r q : Report) (one : Marked x y z r) (two : Marked 
       let search' = two.reports.searched in
       let rows : rows_of search.first ≡ rows_of search'.first = ap (λ (s : Study). view s.table) search.begins ∙ same_rows ∙ sym (ap (λ (s : Study). view s.table) search'.begins) in
       searched_alike one.test slots search.first search'.first search.room search'.room rows search.last search'.last search.searched
-      (subst (λ t. Searched answer_of t slots search'.first search'.last) (sym same_test) search'.searched)
+      (subst (λ t. Searched board_answer t slots search'.first search'.last) (sym same_test) search'.searched)
 
   -- what two reports on three texts show of the search is the same
   pub same_shown : SameShown r q
@@ -118,12 +118,12 @@ module _ (x y z : List ℕ) (r q : Report) (one : Marked x y z r) (two : Marked 
       let few : count_of one.tasks ≤ 32 = omega (arith, few_rows one.reports.before.table, one.reports.rows.size) in
       let order : own.order ≡ other.order = one_order one.tasks two.tasks one.answer two.answer same_tasks same_answer one.paired few own.order other.order own.estimates other.estimates own.is other.is in
       let estimates : own.estimates ≡ other.estimates = one_estimates one.tasks two.tasks one.answer two.answer same_tasks same_answer one.paired few own.order other.order own.estimates other.estimates own.is other.is in
-      let first : FirstMiss answer_of one.test rows own.order own.estimates other.miss =
-      subst (λ t. FirstMiss answer_of t rows own.order own.estimates other.miss) (sym same_test)
-      (subst (λ x. FirstMiss answer_of two.test x own.order own.estimates other.miss) (sym same_rows)
-      (subst (λ x. FirstMiss answer_of two.test (view two.reports.before.table) x own.estimates other.miss) (sym order)
-      (subst (λ x. FirstMiss answer_of two.test (view two.reports.before.table) other.order x other.miss) (sym estimates) other.first))) in
-      let miss : own.miss ≡ other.miss = one_miss answer_of one.test rows own.order own.estimates own.miss other.miss own.first first in
+      let first : FirstMiss board_answer one.test rows own.order own.estimates other.miss =
+      subst (λ t. FirstMiss board_answer t rows own.order own.estimates other.miss) (sym same_test)
+      (subst (λ x. FirstMiss board_answer two.test x own.order own.estimates other.miss) (sym same_rows)
+      (subst (λ x. FirstMiss board_answer two.test (view two.reports.before.table) x own.estimates other.miss) (sym order)
+      (subst (λ x. FirstMiss board_answer two.test (view two.reports.before.table) other.order x other.miss) (sym estimates) other.first))) in
+      let miss : own.miss ≡ other.miss = one_miss board_answer one.test rows own.order own.estimates own.miss other.miss own.first first in
       outcome_alike one.tasks two.tasks same_tasks own.miss r.outcome q.outcome own.outcome (subst (λ x. OutcomeOf two.tasks x q.outcome) (sym miss) other.outcome)
 
   pub one_report : SameReport r q

@@ -14,7 +14,7 @@ use Rattle.study.specs.declared.state.State.TheVariants as state
 use Rattle.study.specs.Pieces.{pieces, put_slots}
 use Rattle.study.specs.Moments.{Moment, rows_of}
 use Rattle.study.specs.Turns.{lows_of, GrowsTo, Finds}
-use Rattle.study.specs.Steps.{taken_of, keep, Leaves, Stepped, none, keeps, full, finds, splits, stops}
+use Rattle.study.specs.Steps.{taken_of, recorded, Leaves, Stepped, none, keeps, keep_stops, finds, splits, split_stops}
 use Rattle.study.proofs.Turned.{lows_within}
 use Rattle.marking.proofs.Answered.{nth_taken}
 use Rattle.orders.proofs.OneGrowth.{one_growth}
@@ -66,8 +66,8 @@ abbrev pub ledger_list_after : Moment → Deed → List ℕ
 ledger_list_after before nothing = before.ledger
 ledger_list_after before stop = before.ledger
 ledger_list_after before (find f) = before.ledger
-ledger_list_after before (kept r) = keep before r
-ledger_list_after before (split u) = keep before u
+ledger_list_after before (kept r) = recorded before r
+ledger_list_after before (split u) = recorded before u
 
 abbrev pub pending_list_after : List Row → Range → ℕ → List ℕ → Deed → List ℕ
 pending_list_after rows taken m p nothing = p
@@ -103,10 +103,10 @@ module _ {T : Type 0} (answer : T → List Row → ℕ → List Bool → List �
   pub deed_of : (room : Room) (before after : Moment) → Stepped answer t room before after → (d : Deed) × DecidesAt room before d × LeavesBy room before d after
   deed_of room before after (none empty ends) = (nothing, empty, ends)
   deed_of room before after (keeps r some closed grows has leaves) = (kept r, (some, closed, grows, has), leaves)
-  deed_of room before after (full some closed lacks ends) = (stop, (some, lacks_ledger closed lacks), ends)
-  deed_of room before after (finds f some opens found ends) = (find f, (some, opens, found), ends)
+  deed_of room before after (keep_stops some closed lacks ends) = (stop, (some, lacks_ledger closed lacks), ends)
+  deed_of room before after (finds f some opens lows found ends) = (find f, (some, lows, found), ends)
   deed_of room before after (splits u some opens closed grows has few leaves) = (split u, (some, opens, closed, grows, has, few), leaves)
-  deed_of room before after (stops u some opens closed grows lacks ends) = (stop, (some, lacks_either u opens closed grows lacks), ends)
+  deed_of room before after (split_stops u some opens closed grows lacks ends) = (stop, (some, lacks_either u opens closed grows lacks), ends)
 
   module _ (laws : Laws answer) (rows : List Row) (few : length rows ≤ 32) (room : Room) (n m : ℕ) (taken : Range) (within : 1 ≤ m → Within rows taken) where
     abbrev By : Deed → Type 0

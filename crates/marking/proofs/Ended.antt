@@ -10,7 +10,7 @@ use Rattle.study.specs.Moments.{moment}
 use Rattle.study.specs.Begins.{HasRoom}
 use Rattle.study.specs.Histories.{Tally, History, Means}
 use Rattle.study.specs.Searches.{Searched, Searches, SearchPromise}
-use Rattle.marking.specs.Reports.{answer_of, HasHistory, SearchedTo, slots}
+use Rattle.marking.specs.Reports.{board_answer, HasHistory, SearchedTo, slots}
 
 slots_are : (room : Room) (l p : List ℕ) (s : Study) → length l ≡ 6144 → length p ≡ 6144 → HasRoom room (moment s l p) → room ≡ slots
 slots_are room l p s ll pp has =
@@ -21,14 +21,14 @@ slots_are room l p s ll pp has =
 pub has_slots : (l p : List ℕ) (s : Study) → length l ≡ 6144 → length p ≡ 6144 → HasRoom slots (moment s l p)
 has_slots l p s ll pp = ((omega arith, omega arith, ll), (omega arith, omega arith, pp))
 
-module _ (t : Overhead NamedTest) (s after : Study) (l p l' p' : List ℕ) (r : Result (Unit {0}) Fault) (ll : length l ≡ 6144) (pp : length p ≡ 6144) (searches : Searches answer_of t (moment s l p) r (moment after l' p')) (row : 1 ≤ length (view s.table)) where
-  pub search_ended : IfOk r (λ _. Means answer_of t (moment after l' p')) → ((c : Tally) → History answer_of t (moment s l p) c → SearchPromise answer_of t (moment s l p) (moment after l' p') c r) → HasHistory s → (r ≡ Ok tt) × SearchedTo t s after
+module _ (t : Overhead NamedTest) (s after : Study) (l p l' p' : List ℕ) (r : Result (Unit {0}) Fault) (ll : length l ≡ 6144) (pp : length p ≡ 6144) (searches : Searches board_answer t (moment s l p) r (moment after l' p')) (row : 1 ≤ length (view s.table)) where
+  pub search_ended : IfOk r (λ _. Means board_answer t (moment after l' p')) → ((c : Tally) → History board_answer t (moment s l p) c → SearchPromise board_answer t (moment s l p) (moment after l' p') c r) → HasHistory s → (r ≡ Ok tt) × SearchedTo t s after
   search_ended means promise history =
       let has = has_slots l p s ll pp in
       let on = (searches.1 row).1 (slots, has) in
       let accepted = on.2 in
       let h = history t l p in
-      let kept = subst (SearchPromise answer_of t (moment s l p) (moment after l' p') h.0) accepted (promise h.0 h.1) in (
+      let kept = subst (SearchPromise board_answer t (moment s l p) (moment after l' p') h.0) accepted (promise h.0 h.1) in (
         accepted,
         record {
           first = moment s l p;
@@ -36,8 +36,8 @@ module _ (t : Overhead NamedTest) (s after : Study) (l p l' p' : List ℕ) (r : 
           begins = refl;
           ends = refl;
           room = has;
-          searched = subst (λ room. Searched answer_of t room (moment s l p) (moment after l' p')) (slots_are on.0 l p s ll pp on.1) on.3;
-          means = subst (λ x. IfOk x (λ _. Means answer_of t (moment after l' p'))) accepted means;
+          searched = subst (λ room. Searched board_answer t room (moment s l p) (moment after l' p')) (slots_are on.0 l p s ll pp on.1) on.3;
+          means = subst (λ x. IfOk x (λ _. Means board_answer t (moment after l' p'))) accepted means;
           few = omega (arith, kept.0.bounded, ap (λ n. n / 64) ll);
         },
       )

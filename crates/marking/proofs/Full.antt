@@ -11,7 +11,7 @@ use Rattle.sheets.specs.Fields.{Writes}
 use Rattle.sheets.specs.Reading.{IsOfKind}
 use Rattle.sheets.specs.Sheets.{HasField, field_of, IsFull}
 use Rattle.sheets.specs.Pairs.{count_of}
-use Rattle.marking.specs.Questions.{number_of, HasNumber}
+use Rattle.marking.specs.Questions.{number_under, HasNumber}
 
 pub test_there : Contains (columns_of Board) Test
 test_there = (2, omega arith, refl)
@@ -47,5 +47,5 @@ module _ (s : Sheet) (form : Form) (is : s.form ≡ form) (full : IsFull s) (c :
   pub has_number : (IsOfKind (kind_of c) (field_of s k c) → (n : ℕ) × Writes (field_of s k c) n) → HasNumber s k c
   has_number number = (both.0, number both.1)
 
-pub small_number : (s : Sheet) (k : ℕ) (c : Column) → HasNumber s k c → number_of s k c ≤ 1000000
+pub small_number : (s : Sheet) (k : ℕ) (c : Column) → HasNumber s k c → number_under s k c ≤ 1000000
 small_number s k c has = omega (arith, has.1.1.number, has.1.1.small)

@@ -21,7 +21,7 @@ module _ (tasks : Sheet) (f : Finding) (i : ℕ) (names : List (List ℕ)) (esti
   pub levels_more : LevelsOf tasks f i names estimates → name ≡ task_of tasks (nth f.order (i + 1) 0) → estimate ≡ nth f.estimates (nth f.order (i + 1) 0) 0 → LevelsOf tasks f (i + 1) (set names i name) (set estimates i estimate)
   levels_more levels is own = record {
     named = each_more (λ k. nth (set names i name) k [] ≡ task_of tasks (nth f.order k 0)) i (λ k low high. nth_there names i name [] k low (λ e. omega arith) ∙ levels.named k low high) (nth_here names i name [] many ∙ is);
-    held = each_more (λ k. nth (set estimates i estimate) k 0 ≡ nth f.estimates (nth f.order k 0) 0) i (λ k low high. nth_there estimates i estimate 0 k low (λ e. omega arith) ∙ levels.held k low high) (nth_here estimates i estimate 0 size ∙ own);
+    estimated = each_more (λ k. nth (set estimates i estimate) k 0 ≡ nth f.estimates (nth f.order k 0) 0) i (λ k low high. nth_there estimates i estimate 0 k low (λ e. omega arith) ∙ levels.estimated k low high) (nth_here estimates i estimate 0 size ∙ own);
   }
 
   pub blank_more : BlankPast i names estimates → BlankPast (i + 1) (set names i name) (set estimates i estimate)
@@ -31,7 +31,7 @@ module _ (tasks : Sheet) (f : Finding) (i : ℕ) (names : List (List ℕ)) (esti
   )
 
 pub no_levels : (tasks : Sheet) (f : Finding) (names : List (List ℕ)) (estimates : List ℕ) → LevelsOf tasks f 0 names estimates
-no_levels tasks f names estimates = record { named = λ k low high. absurd (omega arith); held = λ k low high. absurd (omega arith) }
+no_levels tasks f names estimates = record { named = λ k low high. absurd (omega arith); estimated = λ k low high. absurd (omega arith) }
 
 -- a task of an order is a row
 pub task_row : (n : ℕ) (order : List ℕ) → Order n (take n order) → (i : ℕ) → i < n → (1 ≤ get_or order i 0) × (get_or order i 0 ≤ n)

@@ -19,7 +19,7 @@ use Rattle.sheets.specs.declared.form.Column.TheVariants.{Wcet, Period, Deadline
 use Rattle.sheets.specs.declared.sheet.Sheet.{Sheet}
 use Rattle.sheets.specs.Pairs.{EachLine}
 use Rattle.sheets.proofs.Paired.{each_more}
-use Rattle.marking.specs.Questions.{number_of, HasRow}
+use Rattle.marking.specs.Questions.{number_under, HasRow}
 use Rattle.marking.specs.Reports.{RowsOf, HasHistory}
 
 -- three numbers make a row or make none
@@ -55,7 +55,7 @@ nth_new : (rows : List Row) (new : Row) (i : ℕ) → length rows ≡ i → nth 
 nth_new rows new i size = nth_next (rows ++ new ∷ []) i filler ∙ ap (λ j. get_or (rows ++ new ∷ []) j filler) (let e : i ≡ length rows + 0 = omega arith in e) ∙ get_or-append-add rows (new ∷ []) 0 filler
 
 abbrev OfLine : Sheet → ℕ → Row → Type 0
-OfLine tasks k r = Of r (number_of tasks k Wcet) (number_of tasks k Period) (number_of tasks k Deadline)
+OfLine tasks k r = Of r (number_under tasks k Wcet) (number_under tasks k Period) (number_under tasks k Deadline)
 
 one_more_row : (tasks : Sheet) (i : ℕ) (rows : List Row) (new : Row) → RowsOf tasks i rows → OfLine tasks (i + 1) new → (after : List Row) → after ≡ rows ++ new ∷ [] → RowsOf tasks (i + 1) after
 one_more_row tasks i rows new old of after is = record {
@@ -65,7 +65,7 @@ one_more_row tasks i rows new old of after is = record {
       (subst (OfLine tasks (i + 1)) (sym (ap (λ l. row l (i + 1)) is ∙ nth_new rows new i old.size)) of);
 }
 
-module _ (tasks : Sheet) (i : ℕ) (few : i < 32) (s after : Study) (w p d : ℕ) (ws : w ≡ number_of tasks (i + 1) Wcet) (ps : p ≡ number_of tasks (i + 1) Period) (ds : d ≡ number_of tasks (i + 1) Deadline) (r : Result (Unit {0}) Fault) (edits : Edits (λ t r u. Adds t w p d r u) s r after) (rows : RowsOf tasks i (view s.table)) where
+module _ (tasks : Sheet) (i : ℕ) (few : i < 32) (s after : Study) (w p d : ℕ) (ws : w ≡ number_under tasks (i + 1) Wcet) (ps : p ≡ number_under tasks (i + 1) Period) (ds : d ≡ number_under tasks (i + 1) Deadline) (r : Result (Unit {0}) Fault) (edits : Edits (λ t r u. Adds t w p d r u) s r after) (rows : RowsOf tasks i (view s.table)) where
   moved : IsRow w p d → HasRow tasks (i + 1)
   moved is = (omega (arith, is.0), omega (arith, is.1), omega (arith, is.2), omega (arith, is.3))
 

@@ -1,14 +1,15 @@
 -- A search leaves the table as it was, and what it shows is what is promised.
-use Rattle.std.proofs.Common.{◌≡◌, ℕ, List, [], length, take, refl, sym, ap, subst, ◌∙◌, arith}
+use Rattle.std.proofs.Common.{◌≡◌, ℕ, ◌-◌, ◌≤◌, List, [], length, take, refl, sym, ap, subst, ◌∙◌, arith}
 use Rattle.std.specs.Option.{IfSome}
 use Rattle.table.specs.declared.row.Row.{Row}
 use Rattle.table.specs.declared.rows.Table.{Table}
 use Rattle.table.specs.Places.{nth}
+use Rattle.table.proofs.Placed.{nth_at}
 use Rattle.table.specs.Rows.{view}
 use Rattle.bounds.specs.Questions.{Laws}
 use Rattle.bounds.specs.NamedLaws.{named_laws}
 use Rattle.bounds.specs.OverLaws.{over_laws}
-use Rattle.bounds.specs.Orders.{Order, Holds, HasLate}
+use Rattle.bounds.specs.Orders.{Order, HasLate}
 use Rattle.bounds.specs.declared.overhead.Overhead.{Overhead}
 use Rattle.bounds.specs.declared.named.NamedTest.{NamedTest}
 use Rattle.study.specs.declared.study.Study.{Study}
@@ -19,37 +20,38 @@ use Rattle.study.specs.declared.state.State.TheVariants as state
 use Rattle.study.specs.Counts.{verdicts, finding_in}
 use Rattle.study.specs.Moments.{Moment, rows_of}
 use Rattle.study.specs.Begins.{HasRoom}
-use Rattle.study.specs.Steps.{Stepped, none, keeps, full, finds, splits, stops}
+use Rattle.study.specs.Histories.{Shows}
+use Rattle.study.specs.Steps.{Stepped, none, keeps, keep_stops, finds, splits, split_stops}
 use Rattle.study.specs.Searches.{Leads, begins, steps}
 use Rattle.study.proofs.Lawful.{KeepsAt, begun_keeps, stepped_keeps, begin_accepted, step_accepted, ready}
 use Rattle.sheets.specs.declared.sheet.Sheet.{Sheet}
-use Rattle.sheets.specs.Pairs.{count_of, task_of, EachLine}
+use Rattle.sheets.specs.Pairs.{count_of, task_of}
 use Rattle.marking.proofs.Answered.{nth_taken}
 use Rattle.marking.specs.declared.report.Report.{Report}
 use Rattle.marking.specs.declared.report.Verdict.{Verdict}
 use Rattle.marking.specs.declared.report.Verdict.TheVariants as verdict
-use Rattle.marking.specs.Reports.{answer_of, RowsOf, SearchedTo, ShowsStudy, LevelsOf, LevelsIn, verdict_of, names_of, Promises}
+use Rattle.marking.specs.Reports.{board_answer, RowsOf, SearchedTo, ShowsStudy, LevelsOf, LevelsIn, verdict_of, names_of, ShowsOrder, Promises}
 
-pub answer_laws : Laws answer_of
+pub answer_laws : Laws board_answer
 answer_laws = over_laws named_laws
 
 module _ (t : Overhead NamedTest) where
-  stepped_table : (room : Room) (before after : Moment) → Stepped answer_of t room before after → after.study.table ≡ before.study.table
+  stepped_table : (room : Room) (before after : Moment) → Stepped board_answer t room before after → after.study.table ≡ before.study.table
   stepped_table room before after (none empty ends) = ends.table
   stepped_table room before after (keeps grown some closed grows has leaves) = leaves.table
-  stepped_table room before after (full some closed lacks ends) = ends.table
-  stepped_table room before after (finds f some open' found ends) = ends.table
+  stepped_table room before after (keep_stops some closed lacks ends) = ends.table
+  stepped_table room before after (finds f some open' lows found ends) = ends.table
   stepped_table room before after (splits u some open' closed grows has few leaves) = leaves.table
-  stepped_table room before after (stops u some open' closed grows lacks ends) = ends.table
+  stepped_table room before after (split_stops u some open' closed grows lacks ends) = ends.table
 
-  pub leads_table : (room : Room) (before : Moment) → HasRoom room before → {n : ℕ} {after : Moment} → Leads answer_of t room before n after → (after.study.table ≡ before.study.table) × KeepsAt answer_of t after
+  pub leads_table : (room : Room) (before : Moment) → HasRoom room before → {n : ℕ} {after : Moment} → Leads board_answer t room before n after → (after.study.table ≡ before.study.table) × KeepsAt board_answer t after
   leads_table room before has (begins {after} begun) =
       let on = begin_accepted before after room has begun in
-      (on.2.table, begun_keeps answer_of t on.0 before after on.1 on.2)
+      (on.2.table, begun_keeps board_answer t on.0 before after on.1 on.2)
   leads_table room before has (steps {n} {m} {after} leads going one) =
       let was = leads_table room before has leads in
-      let on = step_accepted answer_of t m after (ready answer_of t m was.1) one in
-      (stepped_table on.0 m after on.2 ∙ was.0, stepped_keeps answer_of t answer_laws on.0 m after was.1 on.1 on.2)
+      let on = step_accepted board_answer t m after (ready board_answer t m was.1) one in
+      (stepped_table on.0 m after on.2 ∙ was.0, stepped_keeps board_answer t answer_laws on.0 m after was.1 on.1 on.2)
 
   module _ (before after : Study) (search : SearchedTo t before after) where
     same_table : after.table ≡ before.table
@@ -58,11 +60,11 @@ module _ (t : Overhead NamedTest) where
     pub last_rows : rows_of search.last ≡ view before.table
     last_rows = ap (λ (s : Study). view s.table) search.ends ∙ ap (λ (u : Table Row). view u) same_table
 
-    shown_order : (f : Finding) → after.state ≡ state.Found f → Order (length (view before.table)) (take (length (view before.table)) f.order) × Holds answer_of t (view before.table) (take (length (view before.table)) f.order)
-    shown_order f is = subst (λ rows. Order (length rows) (take (length rows) f.order) × Holds answer_of t rows (take (length rows) f.order)) last_rows (search.means.found f (ap (λ (s : Study). s.state) search.ends ∙ is))
+    shown_order : (f : Finding) → after.state ≡ state.Found f → Shows board_answer t (view before.table) f
+    shown_order f is = subst (λ rows. Shows board_answer t rows f) last_rows (search.means.found f (ap (λ (s : Study). s.state) search.ends ∙ is))
 
-    every_late : after.state ≡ state.None → (order : List ℕ) → Order (length (view before.table)) order → HasLate answer_of t (view before.table) order
-    every_late is = subst (λ rows. (order : List ℕ) → Order (length rows) order → HasLate answer_of t rows order) last_rows (search.means.none (ap (λ (s : Study). s.state) search.ends ∙ is))
+    every_late : after.state ≡ state.None → (order : List ℕ) → Order (length (view before.table)) order → HasLate board_answer t (view before.table) order
+    every_late is = subst (λ rows. (order : List ℕ) → Order (length rows) order → HasLate board_answer t rows order) last_rows (search.means.none (ap (λ (s : Study). s.state) search.ends ∙ is))
 
     has_verdict : verdicts after.state ≡ 1
     has_verdict = ap (λ (s : Study). verdicts s.state) (sym search.ends) ∙ search.searched.ends
@@ -87,14 +89,27 @@ module _ (t : Overhead NamedTest) (tasks : Sheet) (before after : Study) (search
   rows = view before.table
 
   abbrev Found : Type 0
-  Found = (order : List ℕ) × Order (length rows) order × Holds answer_of t rows order × (r.levels ≡ length rows) × EachLine (λ k. nth (names_of r) k [] ≡ task_of tasks (nth order k 0)) r.levels
+  Found = ShowsOrder t tasks rows r
 
   found_order : (f : Finding) → after.state ≡ state.Found f → r.levels ≡ count_of tasks → LevelsOf tasks f r.levels (names_of r) r.estimates → Found
   found_order f is many levels =
       let n = length rows in
       let shown = shown_order t before after search f is in
       let same : r.levels ≡ n = omega (arith, many, of.size) in
-      (take n f.order, shown.0, shown.1, same, λ k low high. levels.named k low high ∙ ap (task_of tasks) (sym (nth_taken n f.order k low (omega (arith, same)))))
+      let placed : (k : ℕ) → 1 ≤ k → k ≤ r.levels → nth (take n f.order) k 0 ≡ nth f.order k 0 = λ k low high. nth_taken n f.order k low (omega (arith, same)) in
+      record {
+        order = take n f.order;
+        estimates = take n f.estimates;
+        each = shown.0;
+        holds = shown.1;
+        passes = shown.2;
+        many = same;
+        named = λ k low high. levels.named k low high ∙ ap (task_of tasks) (sym (placed k low high));
+        estimated = λ k low high.
+            let at = shown.0.rows (k - 1) (omega (arith, same)) in
+            let here = nth_at (take n f.order) k 0 low in
+            levels.estimated k low high ∙ ap (λ i. nth f.estimates i 0) (sym (placed k low high)) ∙ sym (nth_taken n f.estimates (nth (take n f.order) k 0) (omega (arith, at.0, here)) (omega (arith, at.1, here)));
+      }
 
   found_in : (s : State) → after.state ≡ s → LevelsIn tasks s r.levels (names_of r) r.estimates → code (verdict_of s) ≡ 0 → Found
   found_in state.Draft is levels found = absurd (omega (arith, found))
@@ -103,7 +118,7 @@ module _ (t : Overhead NamedTest) (tasks : Sheet) (before after : Study) (search
   found_in state.None is levels found = absurd (omega (arith, found))
   found_in state.Stopped is levels found = absurd (omega (arith, found))
 
-  none_in : (s : State) → after.state ≡ s → code (verdict_of s) ≡ 1 → (order : List ℕ) → Order (length rows) order → HasLate answer_of t rows order
+  none_in : (s : State) → after.state ≡ s → code (verdict_of s) ≡ 1 → (order : List ℕ) → Order (length rows) order → HasLate board_answer t rows order
   none_in state.Draft is e = absurd (omega (arith, e))
   none_in (state.Running room) is e = absurd (omega (arith, e))
   none_in (state.Found f) is e = absurd (omega (arith, e))

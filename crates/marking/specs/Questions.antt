@@ -1,12 +1,12 @@
 -- What three sheets are asked, once each is read: their values.
-use Rattle.std.specs.Prelude.{◌≡◌, ℕ, ◌+◌, ◌<◌, ◌≤◌, ◌⊎◌, List, codes}
+use Rattle.std.specs.Prelude.{◌≡◌, ℕ, ◌+◌, ◌<◌, ◌≤◌, List}
 use Rattle.table.specs.declared.fault.Fault.{Fault}
 use Rattle.table.specs.declared.fault.Fault.TheVariants.{BadRow, BadTest, BadOrder}
 use Rattle.table.specs.Rows.{IsRow}
 use Rattle.bounds.specs.Made.{Allowed}
 use Rattle.bounds.specs.declared.overhead.Overhead.{Overhead}
 use Rattle.bounds.specs.declared.named.NamedTest.{NamedTest}
-use Rattle.bounds.specs.Named.{IsNamed}
+use Rattle.bounds.specs.Named.{IsTestName, IsNamed}
 use Rattle.sheets.specs.declared.form.Column.{Column}
 use Rattle.sheets.specs.declared.form.Column.TheVariants.{Processors, Overhead as V, Test, Wcet, Period, Deadline, Estimate}
 use Rattle.sheets.specs.declared.sheet.Sheet.{Sheet}
@@ -19,20 +19,16 @@ use Rattle.sheets.specs.Reading.{IsFirst, IsSheet}
 use Rattle.sheets.specs.Pairs.{count_of, task_of, IsNew, Answers, IsAnswered, HasTaskAt, EachLine, FirstLine, PairMisses}
 
 -- the number under a column in the k-th value line
-abbrev pub number_of : Sheet → ℕ → Column → ℕ
-number_of s k c = value (field_of s k c)
+abbrev pub number_under : Sheet → ℕ → Column → ℕ
+number_under s k c = value (field_of s k c)
 
 -- the k-th value line has a number under a column
 abbrev pub HasNumber : Sheet → ℕ → Column → Type 0
 HasNumber s k c = HasField s k c × ((n : ℕ) × Writes (field_of s k c) n)
 
--- a test has this name
-abbrev pub IsTestName : List ℕ → Type 0
-IsTestName name = (name ≡ codes "da") ⊎ ((name ≡ codes "rta") ⊎ (name ≡ codes "lc"))
-
 -- question 12, of a column of the board: m is from 1 to 16, and the test is known; V is small enough by its form
 abbrev pub Suits : Sheet → Column → Type 0
-Suits board Processors = Allowed (number_of board 1 Processors)
+Suits board Processors = Allowed (number_under board 1 Processors)
 Suits board Test = IsTestName (field_of board 1 Test)
 Suits board column = Unit {0}
 
@@ -47,11 +43,11 @@ TestMisses board fault =
 
 -- the test is the board's: the one of its name, on its processors, under an overhead of its V
 abbrev pub IsTest : Sheet → Overhead NamedTest → Type 0
-IsTest board t = (t.added ≡ number_of board 1 V) × IsNamed (field_of board 1 Test) (number_of board 1 Processors) t.below
+IsTest board t = (t.added ≡ number_under board 1 V) × IsNamed (field_of board 1 Test) (number_under board 1 Processors) t.below
 
 -- question 11: the numbers of the k-th value line of the tasks sheet make a row
 abbrev pub HasRow : Sheet → ℕ → Type 0
-HasRow tasks k = IsRow (number_of tasks k Wcet) (number_of tasks k Period) (number_of tasks k Deadline)
+HasRow tasks k = IsRow (number_under tasks k Wcet) (number_under tasks k Period) (number_under tasks k Deadline)
 
 -- the fault is that of the first line that makes no row
 abbrev pub RowMisses : Sheet → Fault → Type 0
@@ -60,7 +56,7 @@ RowMisses tasks fault = (k : ℕ) × (fault ≡ BadRow (place tasks.form (k + 1)
 -- question 17: the estimate in the k-th value line of the answer lies from the C to the D of the task that the line names
 abbrev pub HasEstimate : Sheet → Sheet → ℕ → Type 0
 HasEstimate tasks answer k =
-    (row : ℕ) → HasTaskAt tasks (task_of answer k) row → (number_of tasks row Wcet ≤ number_of answer k Estimate) × (number_of answer k Estimate ≤ number_of tasks row Deadline)
+    (row : ℕ) → HasTaskAt tasks (task_of answer k) row → (number_under tasks row Wcet ≤ number_under answer k Estimate) × (number_under answer k Estimate ≤ number_under tasks row Deadline)
 
 -- the fault is that of the first line whose estimate does not
 abbrev pub EstimateMisses : Sheet → Sheet → Fault → Type 0

@@ -9,7 +9,8 @@ use Rattle.bounds.specs.declared.named.NamedTest.{NamedTest}
 use Rattle.bounds.specs.declared.miss.Miss.{Miss}
 use Rattle.bounds.specs.Named.{named_answer}
 use Rattle.bounds.specs.Orders.{Order, Holds, HasLate, FirstMiss}
-use Rattle.bounds.specs.Overheads.{over}
+use Rattle.bounds.specs.Overheads.{over_answer}
+use Rattle.orders.specs.Ranges.{as_range, Passes}
 use Rattle.study.specs.declared.study.Study.{Study}
 use Rattle.study.specs.declared.finding.Finding.{Finding}
 use Rattle.study.specs.declared.state.State.{State}
@@ -31,24 +32,24 @@ use Rattle.marking.specs.declared.report.Verdict.TheVariants as verdict
 use Rattle.marking.specs.declared.report.Outcome.{Outcome}
 use Rattle.marking.specs.declared.report.Outcome.TheVariants as outcome
 use Rattle.marking.specs.declared.case.Case.{Case}
-use Rattle.marking.specs.Questions.{number_of, HasTest, IsTest, IsPaired, HasRow, HasEstimate, TextsMiss, SheetsMiss}
+use Rattle.marking.specs.Questions.{number_under, HasTest, IsTest, IsPaired, HasRow, HasEstimate, TextsMiss, SheetsMiss}
 
 -- what a board's test answers: what the test of its name answers, and V added
-abbrev pub answer_of : Overhead NamedTest → List Row → ℕ → List Bool → List ℕ → Option ℕ
-answer_of t rows i above estimates = over t.added rows i (named_answer t.below rows i above estimates)
+abbrev pub board_answer : Overhead NamedTest → List Row → ℕ → List Bool → List ℕ → Option ℕ
+board_answer = over_answer named_answer
 
 -- the rows are those of the first n value lines of the tasks sheet: row k is of the numbers in the k-th one
 pub record RowsOf (tasks : Sheet) (n : ℕ) (rows : List Row) : Type 0 where
   pub size : length rows ≡ n
-  pub each : EachLine (λ k. Of (row rows k) (number_of tasks k Wcet) (number_of tasks k Period) (number_of tasks k Deadline)) n
+  pub each : EachLine (λ k. Of (row rows k) (number_under tasks k Wcet) (number_under tasks k Period) (number_under tasks k Deadline)) n
 
 -- a study that calls have led to, under any test and with any lists
 abbrev pub HasHistory : Study → Type 0
-HasHistory s = (t : Overhead NamedTest) (ledger pending : List ℕ) → (c : Tally) × History answer_of t (moment s ledger pending) c
+HasHistory s = (t : Overhead NamedTest) (ledger pending : List ℕ) → (c : Tally) × History board_answer t (moment s ledger pending) c
 
--- in each value line of the answer stands the estimate of the row in the order's place
+-- the estimate in the k-th value line of the answer is that of the row in the order's k-th place
 abbrev pub EstimatesOf : Sheet → List ℕ → List ℕ → ℕ → Type 0
-EstimatesOf answer order estimates n = EachLine (λ k. nth estimates (nth order k 0) 0 ≡ number_of answer k Estimate) n
+EstimatesOf answer order estimates n = EachLine (λ k. nth estimates (nth order k 0) 0 ≡ number_under answer k Estimate) n
 
 -- both lists have 96 slots
 abbrev pub slots : Room
@@ -61,8 +62,8 @@ pub record SearchedTo (t : Overhead NamedTest) (before after : Study) : Type 0 w
   pub begins : first.study ≡ before
   pub ends : last.study ≡ after
   pub room : HasRoom slots first
-  pub searched : Searched answer_of t slots first last
-  pub means : Means answer_of t last
+  pub searched : Searched board_answer t slots first last
+  pub means : Means board_answer t last
   pub few : after.steps ≤ 97
 
 -- the names of a report's levels, as bytes
@@ -72,7 +73,7 @@ names_of r = map (λ name. name.now) r.tasks
 -- Level by level, the first n, these are the names of a found order's tasks and their estimates.
 pub record LevelsOf (tasks : Sheet) (f : Finding) (n : ℕ) (names : List (List ℕ)) (estimates : List ℕ) : Type 0 where
   pub named : EachLine (λ k. nth names k [] ≡ task_of tasks (nth f.order k 0)) n
-  pub held : EachLine (λ k. nth estimates k 0 ≡ nth f.estimates (nth f.order k 0) 0) n
+  pub estimated : EachLine (λ k. nth estimates k 0 ≡ nth f.estimates (nth f.order k 0) 0) n
 
 -- past the last level stand no byte and 0
 abbrev pub BlankPast : ℕ → List (List ℕ) → List ℕ → Type 0
@@ -108,7 +109,7 @@ pub record AnswerOf (tasks answer : Sheet) (order estimates : List ℕ) : Type 0
   pub size : length order ≡ count_of tasks
   pub named : EachLine (λ k. HasTaskAt tasks (task_of answer k) (nth order k 0)) (count_of answer)
   pub many : length estimates ≡ count_of tasks
-  pub held : EstimatesOf answer order estimates (count_of answer)
+  pub estimated : EstimatesOf answer order estimates (count_of answer)
 
 -- the outcome is that of the answer, checked under a test
 pub record ChecksAnswer (t : Overhead NamedTest) (rows : List Row) (tasks answer : Sheet) (o : Outcome) : Type 0 where
@@ -116,10 +117,10 @@ pub record ChecksAnswer (t : Overhead NamedTest) (rows : List Row) (tasks answer
   pub estimates : List ℕ
   pub is : AnswerOf tasks answer order estimates
   pub miss : Option Miss
-  pub first : FirstMiss answer_of t rows order estimates miss
+  pub first : FirstMiss board_answer t rows order estimates miss
   pub outcome : OutcomeOf tasks miss o
 
--- the values of three sheets: the board's test, a study of the rows, and the answer's order and estimates, by row with more places than rows
+-- the values of three sheets: the board's test, a study of the rows, the answer's order, and its estimates by row, each in 32 places
 pub record CaseOf (board tasks answer : Sheet) (case : Case) : Type 0 where
   pub has_test : HasTest board
   pub test : IsTest board case.test
@@ -129,15 +130,26 @@ pub record CaseOf (board tasks answer : Sheet) (case : Case) : Type 0 where
   pub rows : RowsOf tasks (count_of tasks) (view case.study.table)
   pub history : HasHistory case.study
   pub lie : EachLine (HasEstimate tasks answer) (count_of answer)
-  pub held : EstimatesOf answer case.order case.estimates (count_of answer)
+  pub estimated : EstimatesOf answer case.order case.estimates (count_of answer)
   pub size : length case.estimates ≡ 32
+
+-- The levels show an order of the rows, and an estimate for each: no task of the order is late, and it passes the estimates.
+pub record ShowsOrder (t : Overhead NamedTest) (tasks : Sheet) (rows : List Row) (r : Report) : Type 0 where
+  pub order : List ℕ
+  pub estimates : List ℕ
+  pub each : Order (length rows) order
+  pub holds : Holds board_answer t rows order
+  pub passes : Passes board_answer t rows (as_range estimates) order
+  pub many : r.levels ≡ length rows
+  pub named : EachLine (λ k. nth (names_of r) k [] ≡ task_of tasks (nth order k 0)) r.levels
+  pub estimated : EachLine (λ k. nth r.estimates k 0 ≡ nth estimates (nth order k 0) 0) r.levels
 
 -- What a verdict, its counts and its levels promise of these rows under a test.
 pub record Promises (t : Overhead NamedTest) (tasks : Sheet) (rows : List Row) (r : Report) : Type 0 where
-  -- found: the levels show an order of the rows, and it holds
-  pub found : r.verdict ≡ verdict.Found → (order : List ℕ) × Order (length rows) order × Holds answer_of t rows order × (r.levels ≡ length rows) × EachLine (λ k. nth (names_of r) k [] ≡ task_of tasks (nth order k 0)) r.levels
+  -- found: the levels show an order that holds, and estimates that it passes
+  pub found : r.verdict ≡ verdict.Found → ShowsOrder t tasks rows r
   -- none: every order of the rows has a late task
-  pub none : r.verdict ≡ verdict.None → (order : List ℕ) → Order (length rows) order → HasLate answer_of t rows order
+  pub none : r.verdict ≡ verdict.None → (order : List ℕ) → Order (length rows) order → HasLate board_answer t rows order
   -- the steps are as many as the ledger ranges and one more, and the most that 96 slots allow
   pub counted : r.steps ≡ r.ranges + 1
   pub few : r.steps ≤ 97
@@ -147,6 +159,7 @@ pub record Reports (t : Overhead NamedTest) (tasks answer : Sheet) (r : Report) 
   pub before : Study
   pub after : Study
   pub rows : RowsOf tasks (count_of tasks) (view before.table)
+  pub history : HasHistory before
   pub searched : SearchedTo t before after
   pub shows : ShowsStudy tasks after r
   pub promises : Promises t tasks (view before.table) r

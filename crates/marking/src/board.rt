@@ -2,10 +2,11 @@
 ghost use Rattle.std.specs.Prelude.{◌≡◌, ◌↔◌, IsTrue, MatchOption, MatchResult};
 ghost use Rattle.table.specs.declared.fault.Fault.TheVariants.{BadTest as Bad};
 ghost use Rattle.bounds.specs.Made.{Allowed};
+ghost use Rattle.bounds.specs.Named.{IsTestName};
 ghost use Rattle.sheets.specs.declared.form.Form.TheVariants.{Board};
 ghost use Rattle.sheets.specs.Sheets.{HasField, IsFull};
 ghost use Rattle.sheets.specs.Pairs.{count_of};
-ghost use Rattle.marking.specs.Questions.{HasNumber, IsTestName, HasTest, TestMisses, IsTest};
+ghost use Rattle.marking.specs.Questions.{HasNumber, HasTest, TestMisses, IsTest};
 
 use crate::fields::{field, number};
 use bounds::named::NamedTest;
@@ -19,7 +20,7 @@ use table::fault::{Fault, Place};
 fn is_test_name(name: &[u8]) -> bool
     ensures { IsTrue result ↔ IsTestName name.now }
 {
-    matches!(name, b"da" | b"rta" | b"lc")
+    NamedTest::new(name, 1).is_ok()
 }
 
 // Whether there may be so many processors.

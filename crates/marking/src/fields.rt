@@ -2,7 +2,7 @@
 ghost use Rattle.std.specs.Prelude.{◌≡◌, ◌+◌};
 ghost use Rattle.sheets.specs.Forms.{place};
 ghost use Rattle.sheets.specs.Sheets.{left_of, HasField, field_of};
-ghost use Rattle.marking.specs.Questions.{number_of, HasNumber};
+ghost use Rattle.marking.specs.Questions.{number_under, HasNumber};
 
 use sheets::field::Field;
 use sheets::form::Column;
@@ -20,7 +20,7 @@ pub(crate) fn field<'a>(sheet: &Sheet<'a>, k: usize, column: Column) -> Field<'a
 /// The number under a column in the k-th value line.
 pub(crate) fn number(sheet: &Sheet<'_>, k: usize, column: Column) -> u32
     requires { HasNumber sheet.now k column }
-    ensures { result ≡ number_of sheet.now k column }
+    ensures { result ≡ number_under sheet.now k column }
 {
     field(sheet, k, column).number().unwrap()
 }

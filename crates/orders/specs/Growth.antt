@@ -61,12 +61,15 @@ module _ {T : Type 0} (answer : T → List Row → ℕ → List Bool → List �
   abbrev pub GivenBack : Range → Range → Type 0
   GivenBack r q = (Open answer t rows r → q ≡ r) × ((Within rows r → ⊥) → q ≡ r)
 
-  -- the grown range contains the one handed in, is a closed range, and every wider range is open
-  pub record Maximal (r q : Range) : Type 0 where
-    pub contains : Contains rows q r
-    pub within : Within rows q
-    pub closed : Closed answer t rows q
-    pub wider : (w : Range) → Within rows w → Wider rows w q → Open answer t rows w
+  -- a range that is barred: it is closed, and every wider range is open
+  pub record Barred (r : Range) : Type 0 where
+    pub within : Within rows r
+    pub closed : Closed answer t rows r
+    pub wider : (w : Range) → Within rows w → Wider rows w r → Open answer t rows w
+
+  -- a range is barred that contains another
+  abbrev pub Maximal : Range → Range → Type 0
+  Maximal r q = Contains rows q r × Barred q
 
   -- growing a closed range of the rows: the grown range is maximal
   abbrev pub GrownMaximal : Range → Range → Type 0

@@ -10,7 +10,7 @@ use Rattle.study.specs.Counts.{verdicts}
 use Rattle.study.specs.Slots.{HasSlots}
 use Rattle.study.specs.Moments.{Moment, moment, rows_of}
 use Rattle.study.specs.Begins.{HasRoom, Begins}
-use Rattle.study.specs.Steps.{Runs, Stepped, Steps, none, keeps, full, finds, splits, stops}
+use Rattle.study.specs.Steps.{Runs, Stepped, Steps, none, keeps, keep_stops, finds, splits, split_stops}
 use Rattle.study.specs.Histories.{Tally, other, Promise, History, begin, no_begin, step}
 use Rattle.study.specs.Searches.{Leads, begins, steps, Searches, SearchPromise}
 use Rattle.study.proofs.Lawful.{room_of, KeepsAt, Told, begun_keeps, told_begun, stepped_keeps, told_stepped, begin_accepted, begin_refused, step_accepted, counted_running, ok≢err, ready, law}
@@ -60,10 +60,10 @@ module _ {T : Type 0} (answer : T → List Row → ℕ → List Bool → List �
     after_step stepped = elim stepped [
       | none nothing ends ↦ (ends.steps, inr (ap verdicts ends.state))
       | keeps grown some closed grows left leaves ↦ (leaves.steps, inl leaves.state)
-      | full some closed lacks ends ↦ (ends.steps, inr (ap verdicts ends.state))
-      | finds f some opens found ends ↦ (ends.steps, inr (ap verdicts ends.state))
+      | keep_stops some closed lacks ends ↦ (ends.steps, inr (ap verdicts ends.state))
+      | finds f some opens lows found ends ↦ (ends.steps, inr (ap verdicts ends.state))
       | splits u some opens closed grows left enough leaves ↦ (leaves.steps, inl leaves.state)
-      | stops u some opens closed grows lacks ends ↦ (ends.steps, inr (ap verdicts ends.state))
+      | split_stops u some opens closed grows lacks ends ↦ (ends.steps, inr (ap verdicts ends.state))
     ]
 
     did_step : Steps answer t m (Ok tt) after → Stepped answer t room m after

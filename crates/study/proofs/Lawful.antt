@@ -19,10 +19,10 @@ use Rattle.study.specs.Counts.{verdicts, Counted}
 use Rattle.study.specs.Calls.{IsDraft, EditsBy}
 use Rattle.study.specs.Moments.{Moment, moment, rows_of}
 use Rattle.study.specs.Begins.{HasRoom, Begun, Begins}
-use Rattle.study.specs.Steps.{Runs, AsLeft, Leaves, Stepped, Steps, none, keeps, full, finds, splits, stops}
-use Rattle.study.specs.Histories.{Tally, begun, one_more, other, Means, Promise, StepPromise, History, Law, start, edit, begin, no_begin, step, no_step}
+use Rattle.study.specs.Steps.{Runs, AsLeft, Leaves, Stepped, Steps, none, keeps, keep_stops, finds, splits, split_stops}
+use Rattle.study.specs.Histories.{Tally, begun, one_more, other, Means, Promise, StepPromise, History, Law, Shows, start, edit, begin, no_begin, step, no_step}
 use Rattle.study.proofs.Sought.{Holding, AllBarred, Sought, sought_kept, sought_split, slot_full}
-use Rattle.study.proofs.Standing.{finding_holds, every_late}
+use Rattle.study.proofs.Standing.{finding_shows, every_late}
 use Rattle.study.proofs.Started.{sought_begun}
 
 -- which state it is
@@ -50,7 +50,7 @@ finding_of d state.Stopped = d
 module _ {T : Type 0} (answer : T → List Row → ℕ → List Bool → List ℕ → Option ℕ) (t : T) where
   -- what a moment's verdict and ledger say, on these rows, in this state, with n ledger slots counted
   pub record Stands (rows : List Row) (s : State) (n : ℕ) (l : List ℕ) : Type 0 where
-    pub found : (f : Finding) → s ≡ state.Found f → Order (length rows) (take (length rows) f.order) × Holds answer t rows (take (length rows) f.order)
+    pub found : (f : Finding) → s ≡ state.Found f → Shows answer t rows f
     pub none : s ≡ state.None → (order : List ℕ) → Order (length rows) order → HasLate answer t rows order
     pub barred : AllBarred answer t rows n l
     pub covered : s ≡ state.None → (es : List ℕ) → Estimates rows es → Holding rows l n es
@@ -93,10 +93,10 @@ module _ {T : Type 0} (answer : T → List Row → ℕ → List Bool → List �
     runs = λ r is. absurd (omega (arith, ap kind is));
   }
 
-  ended_found : (rows : List Row) (f : Finding) (n m : ℕ) (l p : List ℕ) → AllBarred answer t rows n l → Order (length rows) (take (length rows) f.order) × Holds answer t rows (take (length rows) f.order) → Keeps rows (state.Found f) n m l p
+  ended_found : (rows : List Row) (f : Finding) (n m : ℕ) (l p : List ℕ) → AllBarred answer t rows n l → Shows answer t rows f → Keeps rows (state.Found f) n m l p
   ended_found rows f n m l p barred shows = record {
     stands = record {
-      found = λ g is. subst (λ (x : Finding). Order (length rows) (take (length rows) x.order) × Holds answer t rows (take (length rows) x.order)) (ap (finding_of f) is) shows;
+      found = λ g is. subst (Shows answer t rows) (ap (finding_of f) is) shows;
       none = λ is. absurd (omega (arith, ap kind is));
       barred = barred;
       covered = λ is. absurd (omega (arith, ap kind is));
@@ -145,12 +145,12 @@ module _ {T : Type 0} (answer : T → List Row → ℕ → List Bool → List �
               let cover : (es : List ℕ) → Estimates rows es → Holding rows l n es = λ es est. elim (sought.cover es est) [ inl kept ↦ kept | inr waits ↦ absurd (omega (arith, waits.1, waits.2, nothing)) ] in
               leaves_keeps before after _ _ _ _ _ ends (ended_none rows n m l p sought.barred cover (every_late laws t rows few n l sought.barred cover))
           | keeps grown some closed grows left leaves ↦ leaves_keeps before after _ _ _ _ _ leaves (running rows room _ _ _ _ (sought_kept laws t rows few room n m l p sought some left grown closed grows))
-          | full some closed lacks ends ↦ leaves_keeps before after _ _ _ _ _ ends (stopped rows n m l p sought.barred)
-          | finds f some opens found ends ↦
+          | keep_stops some closed lacks ends ↦ leaves_keeps before after _ _ _ _ _ ends (stopped rows n m l p sought.barred)
+          | finds f some opens lows found ends ↦
               let whole = slot_full p m some (omega (arith, sought.long_pending, sought.few_waiting)) in
-              leaves_keeps before after _ _ _ _ _ ends (ended_found rows f n m l p sought.barred (finding_holds laws t rows few _ f whole (sought.waiting m some (omega arith)) found))
+              leaves_keeps before after _ _ _ _ _ ends (ended_found rows f n m l p sought.barred (finding_shows laws t rows few _ f whole (sought.waiting m some (omega arith)) found))
           | splits u some opens closed grows left enough leaves ↦ leaves_keeps before after _ _ _ _ _ leaves (running rows room _ _ _ _ (sought_split laws t rows few room n m l p sought some left u closed grows enough))
-          | stops u some opens closed grows lacks ends ↦ leaves_keeps before after _ _ _ _ _ ends (stopped rows n m l p sought.barred)
+          | split_stops u some opens closed grows lacks ends ↦ leaves_keeps before after _ _ _ _ _ ends (stopped rows n m l p sought.barred)
         ]
 
 -- what a running study's counts say
@@ -213,10 +213,10 @@ module _ (room : Room) (before after : Moment) (c : Tally) (told : Told before c
   told_stepped answer t stepped = elim stepped [
     | none nothing ends ↦ told_ended state.None ends.state refl
     | keeps grown some closed grows left leaves ↦ told_running leaves.state leaves.steps
-    | full some closed lacks ends ↦ told_ended state.Stopped ends.state refl
-    | finds f some opens found ends ↦ told_ended (state.Found f) ends.state refl
+    | keep_stops some closed lacks ends ↦ told_ended state.Stopped ends.state refl
+    | finds f some opens lows found ends ↦ told_ended (state.Found f) ends.state refl
     | splits u some opens closed grows left enough leaves ↦ told_running leaves.state leaves.steps
-    | stops u some opens closed grows lacks ends ↦ told_ended state.Stopped ends.state refl
+    | split_stops u some opens closed grows lacks ends ↦ told_ended state.Stopped ends.state refl
   ]
 
 -- an accepted call is not a refused one

@@ -8,14 +8,13 @@ use Rattle.bounds.specs.Questions.{Laws}
 use Rattle.bounds.specs.Orders.{Estimates}
 use Rattle.orders.specs.declared.range.Range.{Range}
 use Rattle.orders.specs.Ranges.{low, high, LiesIn, Closed}
-use Rattle.orders.specs.Growth.{GrownTo, start, next, Maximal}
+use Rattle.orders.specs.Growth.{GrownTo, start, next, Barred, Maximal}
 use Rattle.orders.proofs.Grows.{grown_maximal}
 use Rattle.study.specs.declared.room.Room.{Room}
 use Rattle.study.specs.Slots.{slot, put_slot}
 use Rattle.study.specs.Pieces.{piece, pieces, put_slots}
 use Rattle.study.specs.Turns.{lows_of, GrowsTo}
 use Rattle.study.specs.Steps.{IsSlot}
-use Rattle.study.specs.Histories.{Barred}
 use Rattle.study.proofs.Overs.{Full, put_slot_length, put_slot_back, put_slot_other}
 use Rattle.study.proofs.Pieced.{piece_full}
 use Rattle.study.proofs.Turned.{lows_within}
@@ -112,11 +111,11 @@ module _ {T : Type 0} {answer : T → List Row → ℕ → List Bool → List �
     full_grown : Full grown
     full_grown = grown_full answer t rows (slot p m) full_taken grows
 
-    barred_grown : Barred answer t rows grown
-    barred_grown = record { within = maximal.within; closed = maximal.closed; wider = maximal.wider }
+    abbrev barred_grown : Barred answer t rows grown
+    barred_grown = maximal.1
 
     lies_grown : (e : List ℕ) → LiesIn rows e (slot p m) → LiesIn rows e grown
-    lies_grown e lies k names = let c = maximal.contains k names in let h = lies k names in (omega (arith, c.0, h.0), omega (arith, c.1, h.1))
+    lies_grown e lies k names = let c = maximal.0 k names in let h = lies k names in (omega (arith, c.0, h.0), omega (arith, c.1, h.1))
 
     pub sought_kept : Sought answer t rows room (n + 1) (m - 1) (put_slot l (n + 1) grown) p
     sought_kept = record {
@@ -143,8 +142,8 @@ module _ {T : Type 0} {answer : T → List Row → ℕ → List Bool → List �
     full_u : Full u
     full_u = grown_full answer t rows (lows_of (slot p m)) (record { lows = full_taken.lows; highs = full_taken.lows }) grows
 
-    barred_u : Barred answer t rows u
-    barred_u = record { within = maximal_lows.within; closed = maximal_lows.closed; wider = maximal_lows.wider }
+    abbrev barred_u : Barred answer t rows u
+    barred_u = maximal_lows.1
 
     abbrev ps : List Range
     ps = pieces (slot p m) u (length rows)
@@ -159,7 +158,7 @@ module _ {T : Type 0} {answer : T → List Row → ℕ → List Bool → List �
     piece_is_slot : (i : ℕ) (d : Range) → i < length ps → IsSlot rows (get_or ps i d)
     piece_is_slot i d inside =
         let of = piece_of (slot p m) u (length rows) i d inside in
-        subst (IsSlot rows) (sym of.4) (piece_slot rows few (slot p m) u full_taken within_taken (λ k names. (maximal_lows.contains k names).1) of.0 (of.1, of.2) of.3)
+        subst (IsSlot rows) (sym of.4) (piece_slot rows few (slot p m) u full_taken within_taken (λ k names. (maximal_lows.0 k names).1) of.0 (of.1, of.2) of.3)
 
     fits_pieces : 64 * (m - 1 + length ps) ≤ length p
     fits_pieces = omega (arith, sought.long_pending, enough)
@@ -171,7 +170,7 @@ module _ {T : Type 0} {answer : T → List Row → ℕ → List Bool → List �
     at_pieces i d inside = put_slots_back ps p m full_pieces some fits_pieces i d inside
 
     waits_in : (e : List ℕ) → LiesIn rows e (slot p m) → Holding rows (put_slot l (n + 1) u) (n + 1) e ⊎ Holding rows (put_slots p m ps) (m - 1 + length ps) e
-    waits_in e lies = elim (covered rows few (slot p m) u full_taken e lies (λ k names. (maximal_lows.contains k names).0)) [
+    waits_in e lies = elim (covered rows few (slot p m) u full_taken e lies (λ k names. (maximal_lows.0 k names).0)) [
       | inl inside ↦ inl (now_in answer t rows room n m l p sought some room_left u full_u barred_u e inside)
       | inr piece_k ↦
           let at = place_of (slot p m) u (length rows) piece_k.0 u piece_k.1.0 piece_k.1.1 piece_k.2 in

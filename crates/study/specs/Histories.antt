@@ -3,8 +3,8 @@ use Rattle.std.specs.Prelude.{◌≡◌, ℕ, ◌+◌, ◌≤◌, Bool, true, fa
 use Rattle.table.specs.declared.row.Row.{Row}
 use Rattle.table.specs.declared.fault.Fault.{Fault}
 use Rattle.bounds.specs.Orders.{Order, Estimates, Holds, HasLate}
-use Rattle.orders.specs.declared.range.Range.{Range}
-use Rattle.orders.specs.Ranges.{Within, Wider, LiesIn, Open, Closed}
+use Rattle.orders.specs.Ranges.{as_range, LiesIn, Passes}
+use Rattle.orders.specs.Growth.{Barred}
 use Rattle.study.specs.declared.study.Study.{Study}
 use Rattle.study.specs.declared.edit.Edit.{Edit}
 use Rattle.study.specs.declared.room.Room.{Room}
@@ -54,22 +54,22 @@ module _ {T : Type 0} (answer : T → List Row → ℕ → List Bool → List �
     -- a refused step, on any lists: those at hand stay
     no_step : {m : Moment} {c : Tally} → History m c → (l p : List ℕ) (after : Moment) (e : Fault) → Steps answer t (moment m.study l p) (Err e) after → History (moment after.study m.ledger m.pending) (other c)
 
-  -- a ledger range: no order passes it, and every wider range of the table is passed by one
-  pub record Barred (rows : List Row) (r : Range) : Type 0 where
-    pub within : Within rows r
-    pub closed : Closed answer t rows r
-    pub wider : (w : Range) → Within rows w → Wider rows w r → Open answer t rows w
+  -- what is shown on found: the order lists every row once, no task of it is late, and it passes the estimates
+  abbrev pub Shows : List Row → Finding → Type 0
+  Shows rows f =
+      let order = take (length rows) f.order in
+      Order (length rows) order × Holds answer t rows order × Passes answer t rows (as_range (take (length rows) f.estimates)) order
 
   -- What a verdict and a ledger mean.
   pub record Means (m : Moment) : Type 0 where
-    -- found: the order shown lists every row once, and no task of it is late
-    pub found : (f : Finding) → m.study.state ≡ state.Found f → Order (length (rows_of m)) (take (length (rows_of m)) f.order) × Holds answer t (rows_of m) (take (length (rows_of m)) f.order)
+    -- found: the order shown holds, and passes the estimates shown
+    pub found : (f : Finding) → m.study.state ≡ state.Found f → Shows (rows_of m) f
     -- none: every order has a late task
     pub none : m.study.state ≡ state.None → (order : List ℕ) → Order (length (rows_of m)) order → HasLate answer t (rows_of m) order
-    -- each counted ledger range is closed and as wide as it can be
-    pub ledger : (i : ℕ) → 1 ≤ i → i ≤ m.study.ledger → Barred (rows_of m) (slot m.ledger i)
+    -- each counted ledger range is closed, and every wider one is open
+    pub ledger : (k : ℕ) → 1 ≤ k → k ≤ m.study.ledger → Barred answer t (rows_of m) (slot m.ledger k)
     -- on none, every list of estimates lies in a counted ledger range
-    pub covered : m.study.state ≡ state.None → (estimates : List ℕ) → Estimates (rows_of m) estimates → (i : ℕ) × (1 ≤ i) × (i ≤ m.study.ledger) × LiesIn (rows_of m) estimates (slot m.ledger i)
+    pub covered : m.study.state ≡ state.None → (estimates : List ℕ) → Estimates (rows_of m) estimates → (k : ℕ) × (1 ≤ k) × (k ≤ m.study.ledger) × LiesIn (rows_of m) estimates (slot m.ledger k)
 
   -- What is promised of a moment.
   pub record Promise (m : Moment) (c : Tally) : Type 0 where

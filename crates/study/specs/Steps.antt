@@ -52,8 +52,8 @@ abbrev pub Ends : Moment → State → Moment → Type 0
 Ends before s after = Leaves before s before.study.ledger before.study.pending before.ledger before.pending after
 
 -- the ledger with a range in the slot after the last counted one
-abbrev pub keep : Moment → Range → List ℕ
-keep m r = put_slot m.ledger (m.study.ledger + 1) r
+abbrev pub recorded : Moment → Range → List ℕ
+recorded m r = put_slot m.ledger (m.study.ledger + 1) r
 
 -- the pieces of the last counted pending range, where the list of its lows is grown to U
 abbrev pub pieces_of : Moment → Range → List Range
@@ -71,18 +71,18 @@ module _ {T : Type 0} (answer : T → List Row → ℕ → List Bool → List �
     -- the last pending range is closed: its grown form goes to the ledger, and it leaves the list
     keeps : (grown : Range) → 1 ≤ before.study.pending → Closed answer t (rows_of before) (taken_of before) → GrowsTo answer t (rows_of before) (taken_of before) grown
         → before.study.ledger < room.ledger
-        → Leaves before (state.Running room) (before.study.ledger + 1) (before.study.pending - 1) (keep before grown) before.pending after → Stepped room before after
+        → Leaves before (state.Running room) (before.study.ledger + 1) (before.study.pending - 1) (recorded before grown) before.pending after → Stepped room before after
     -- it is closed, and the ledger has no slot left
-    full : 1 ≤ before.study.pending → Closed answer t (rows_of before) (taken_of before) → room.ledger ≤ before.study.ledger → Ends before state.Stopped after → Stepped room before after
-    -- the list of its lows is open
-    finds : (f : Finding) → 1 ≤ before.study.pending → Open answer t (rows_of before) (lows_of (taken_of before)) → Finds answer t (rows_of before) (taken_of before) f → Ends before (state.Found f) after → Stepped room before after
+    keep_stops : 1 ≤ before.study.pending → Closed answer t (rows_of before) (taken_of before) → room.ledger ≤ before.study.ledger → Ends before state.Stopped after → Stepped room before after
+    -- the range is open, and so is the list of its lows
+    finds : (f : Finding) → 1 ≤ before.study.pending → Open answer t (rows_of before) (taken_of before) → Open answer t (rows_of before) (lows_of (taken_of before)) → Finds answer t (rows_of before) (taken_of before) f → Ends before (state.Found f) after → Stepped room before after
     -- neither: the list of its lows is grown to U, which goes to the ledger, and the range is replaced by its pieces
     splits : (u : Range) → 1 ≤ before.study.pending → Open answer t (rows_of before) (taken_of before) → Closed answer t (rows_of before) (lows_of (taken_of before)) → GrowsTo answer t (rows_of before) (lows_of (taken_of before)) u
         → before.study.ledger < room.ledger → pending_after before u ≤ room.pending
         → Leaves before (state.Running room) (before.study.ledger + 1) (pending_after before u)
-        (keep before u) (put_slots before.pending before.study.pending (pieces_of before u)) after → Stepped room before after
+        (recorded before u) (put_slots before.pending before.study.pending (pieces_of before u)) after → Stepped room before after
     -- neither, and a ledger or pending slot is lacking
-    stops : (u : Range) → 1 ≤ before.study.pending → Open answer t (rows_of before) (taken_of before) → Closed answer t (rows_of before) (lows_of (taken_of before)) → GrowsTo answer t (rows_of before) (lows_of (taken_of before)) u
+    split_stops : (u : Range) → 1 ≤ before.study.pending → Open answer t (rows_of before) (taken_of before) → Closed answer t (rows_of before) (lows_of (taken_of before)) → GrowsTo answer t (rows_of before) (lows_of (taken_of before)) u
         → (room.ledger ≤ before.study.ledger) ⊎ (room.pending < pending_after before u)
         → Ends before state.Stopped after → Stepped room before after
 

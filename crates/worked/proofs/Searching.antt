@@ -17,7 +17,7 @@ use Rattle.study.specs.Pieces.{pieces, put_slots}
 use Rattle.study.specs.Moments.{Moment, rows_of}
 use Rattle.study.specs.Begins.{whole, HasRoom, Begins}
 use Rattle.study.specs.Turns.{lows_of, GrowsTo, Finds}
-use Rattle.study.specs.Steps.{Runs, taken_of, Stepped, Steps, none, keeps, full, finds, splits, stops}
+use Rattle.study.specs.Steps.{Runs, taken_of, Stepped, Steps, none, keeps, keep_stops, finds, splits, split_stops}
 use Rattle.study.proofs.Overs.{Full, put_slot_back}
 use Rattle.study.proofs.Runs.{EachFull, put_slots_back}
 use Rattle.orders.proofs.OneGrowth.{one_growth}
@@ -82,10 +82,10 @@ module _ {T : Type 0} (answer : T → List Row → ℕ → List Bool → List �
     ends_none empty = elim did [
       | none nothing ends ↦ ends.state
       | keeps grown some closed grows left leaves ↦ absurd (omega (arith, some, on.pending, empty))
-      | full some closed lacks ends ↦ absurd (omega (arith, some, on.pending, empty))
-      | finds f some opens found ends ↦ absurd (omega (arith, some, on.pending, empty))
+      | keep_stops some closed lacks ends ↦ absurd (omega (arith, some, on.pending, empty))
+      | finds f some opens lows found ends ↦ absurd (omega (arith, some, on.pending, empty))
       | splits u some opens closed grows left enough leaves ↦ absurd (omega (arith, some, on.pending, empty))
-      | stops u some opens closed grows lacks ends ↦ absurd (omega (arith, some, on.pending, empty))
+      | split_stops u some opens closed grows lacks ends ↦ absurd (omega (arith, some, on.pending, empty))
     ]
 
     -- the list of the lows is open: its order is found
@@ -95,10 +95,10 @@ module _ {T : Type 0} (answer : T → List Row → ℕ → List Bool → List �
         elim did [
           | none nothing ends ↦ absurd (omega (arith, nothing, on.pending, waits))
           | keeps grown some closed grows left leaves ↦ absurd (not_closed on (λ x. x) opens closed)
-          | full some closed lacks ends ↦ absurd (not_closed on (λ x. x) opens closed)
-          | finds f some opened found ends ↦ let this = known on (λ rs x. Finds answer t rs x f) found in (f, ends.state, same_Some _ _ (sym (this.0.1 within).0 ∙ is), this.1, ends.ledger ∙ on.ledger)
+          | keep_stops some closed lacks ends ↦ absurd (not_closed on (λ x. x) opens closed)
+          | finds f some opened lows found ends ↦ let this = known on (λ rs x. Finds answer t rs x f) found in (f, ends.state, same_Some _ _ (sym (this.0.1 within).0 ∙ is), this.1, ends.ledger ∙ on.ledger)
           | splits u some opened closed grows left enough leaves ↦ absurd (not_closed on lows_of below closed)
-          | stops u some opened closed grows lacks ends ↦ absurd (not_closed on lows_of below closed)
+          | split_stops u some opened closed grows lacks ends ↦ absurd (not_closed on lows_of below closed)
         ]
 
     module _ (laws : Laws answer) (waits : 1 ≤ m) (left : n < room.ledger) where
@@ -131,10 +131,10 @@ module _ {T : Type 0} (answer : T → List Row → ℕ → List Bool → List �
                     kept = next_kept;
                   },
                 )
-            | full some closed' lacks ends ↦ absurd (omega (arith, lacks, on.ledger, left))
-            | finds f some opened found ends ↦ absurd (not_open on lows_of below opened)
+            | keep_stops some closed' lacks ends ↦ absurd (omega (arith, lacks, on.ledger, left))
+            | finds f some opened lows found ends ↦ absurd (not_open on lows_of below lows)
             | splits u some opened closed' grows' room_left enough leaves ↦ absurd (not_open on (λ x. x) closed opened)
-            | stops u some opened closed' grows' lacks ends ↦ absurd (not_open on (λ x. x) closed opened)
+            | split_stops u some opened closed' grows' lacks ends ↦ absurd (not_open on (λ x. x) closed opened)
           ]
 
       -- it is open, and the list of its lows closed: the grown list goes to the ledger, and the pieces replace the range
@@ -148,8 +148,8 @@ module _ {T : Type 0} (answer : T → List Row → ℕ → List Bool → List �
           elim did [
             | none nothing ends ↦ absurd (omega (arith, nothing, on.pending, waits))
             | keeps grown some closed' grows' room_left leaves ↦ absurd (not_closed on (λ x. x) opens closed')
-            | full some closed' lacks ends ↦ absurd (not_closed on (λ x. x) opens closed')
-            | finds f some opened found ends ↦ absurd (not_open on lows_of closed opened)
+            | keep_stops some closed' lacks ends ↦ absurd (not_closed on (λ x. x) opens closed')
+            | finds f some opened lows found ends ↦ absurd (not_open on lows_of closed lows)
             | splits v some opened closed' grows' room_left enough' leaves ↦
                 let is = divided v grows' in
                 let count : after.study.ledger ≡ n + 1 = leaves.ledger ∙ ap (λ i. i + 1) on.ledger in
@@ -168,7 +168,7 @@ module _ {T : Type 0} (answer : T → List Row → ℕ → List Bool → List �
                     kept = next_kept;
                   },
                 )
-            | stops v some opened closed' grows' lacks ends ↦
+            | split_stops v some opened closed' grows' lacks ends ↦
                 let is = divided v grows' in
                 let count = ap length is.1 in
                 absurd (elim lacks [ inl few ↦ omega (arith, few, on.ledger, left) | inr few ↦ omega (arith, few, on.pending, enough, count) ])

@@ -1,7 +1,7 @@
 // What an overhead answers.
 ghost use Rattle.std.specs.Prelude.{◌≡◌, ◌+◌, ◌≤◌};
 ghost use Rattle.table.specs.Rows.{row, Names};
-ghost use Rattle.bounds.specs.Overheads.{over, MadeOverhead};
+ghost use Rattle.bounds.specs.Overheads.{over_answer, MadeOverhead};
 ghost use Rattle.bounds.specs.Questions.{timely as timely_bound};
 ghost use Rattle.bounds.specs.OverLaws.{over_laws};
 
@@ -38,7 +38,7 @@ fn add_within(rows: &[Row], task: usize, bound: u32, added: u32) -> Option<u32>
 }
 
 impl<T: Test> Test for Overhead<T> {
-    ghost answer = { λ o rows i s e. over o.added rows i (T.Test.answer o.below rows i s e) };
+    ghost answer = { over_answer T.Test.answer };
 
     ghost kept = { over_laws T.Test.kept };
 

@@ -3,7 +3,7 @@ ghost use Rattle.std.specs.Prelude.{◌≡◌, ℕ, ◌+◌, ◌*◌, ◌<◌, �
 ghost use Rattle.study.specs.declared.state.State.TheVariants as state;
 ghost use Rattle.study.specs.Counts.{verdicts};
 ghost use Rattle.study.specs.Moments.{moment};
-ghost use Rattle.study.specs.Steps.{Ends, Leaves, keep};
+ghost use Rattle.study.specs.Steps.{Ends, Leaves, recorded};
 
 use super::Study;
 use crate::lists::write_slot;
@@ -28,7 +28,7 @@ impl Study {
         requires long { length ledger.old ≡ 64 * room.ledger }
         requires left { (self.old.ledger < room.ledger) × (pending ≤ room.pending) }
         ensures { (p q : List ℕ) → let m = moment self.old ledger.old p in
-            Leaves m (state.Running room) (self.old.ledger + 1) pending (keep m range.now) q (moment self.new ledger.new q) }
+            Leaves m (state.Running room) (self.old.ledger + 1) pending (recorded m range.now) q (moment self.new ledger.new q) }
     {
         write_slot(ledger, self.ledger + 1, range);
         self.ledger += 1;

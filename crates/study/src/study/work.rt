@@ -7,7 +7,7 @@ ghost use Rattle.study.specs.declared.state.State.TheVariants as state;
 ghost use Rattle.study.specs.Begins.{Refuses};
 ghost use Rattle.study.specs.Moments.{moment};
 ghost use Rattle.study.specs.Pieces.{pieces, put_slots};
-ghost use Rattle.study.specs.Steps.{AsLeft, Ends, Leaves, Runs, Stepped, keep, taken_of};
+ghost use Rattle.study.specs.Steps.{AsLeft, Ends, Leaves, Runs, Stepped, recorded, taken_of};
 
 use super::Study;
 use crate::lists::{SLOT, is_slot, read_slot};
@@ -53,7 +53,7 @@ impl Study {
         requires some { 1 ≤ self.old.pending }
         requires long { length ledger.old ≡ 64 * room.ledger }
         ensures kept { (p : List ℕ) → self.old.ledger < room.ledger → let m = moment self.old ledger.old p in
-            Leaves m (state.Running room) (self.old.ledger + 1) (self.old.pending - 1) (keep m grown.now) p (moment self.new ledger.new p) }
+            Leaves m (state.Running room) (self.old.ledger + 1) (self.old.pending - 1) (recorded m grown.now) p (moment self.new ledger.new p) }
         ensures full { (p : List ℕ) → room.ledger ≤ self.old.ledger → Ends (moment self.old ledger.old p) state.Stopped (moment self.new ledger.new p) }
     {
         if self.ledger == room.ledger {
@@ -78,7 +78,7 @@ impl Study {
         ensures split { let m = moment self.old ledger.old pending.old in
             let ps = pieces taken.now bound.now (length (view self.old.table)) in
             self.old.ledger < room.ledger → self.old.pending - 1 + length ps ≤ room.pending →
-            Leaves m (state.Running room) (self.old.ledger + 1) (self.old.pending - 1 + length ps) (keep m bound.now) (put_slots pending.old self.old.pending ps) (moment self.new ledger.new pending.new) }
+            Leaves m (state.Running room) (self.old.ledger + 1) (self.old.pending - 1 + length ps) (recorded m bound.now) (put_slots pending.old self.old.pending ps) (moment self.new ledger.new pending.new) }
         ensures full { let ps = pieces taken.now bound.now (length (view self.old.table)) in
             (room.ledger ≤ self.old.ledger) ⊎ (room.pending < self.old.pending - 1 + length ps) →
             Ends (moment self.old ledger.old pending.old) state.Stopped (moment self.new ledger.new pending.new) }

@@ -26,6 +26,7 @@ returns c =
         before = c.args.self.study;
         after = c.search.new.study;
         rows = case.rows;
+        history = case.history;
         searched = c.search.ensures.1;
         shows = shown;
         promises = promises c.args.self.test c.args.tasks.now c.args.self.study c.search.new.study c.search.ensures.1 case.rows c.report_of.result shown;

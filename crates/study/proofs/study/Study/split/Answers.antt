@@ -4,7 +4,7 @@ use Rattle.table.proofs.View.{few_rows}
 use Rattle.study.specs.declared.state.State.TheVariants as state
 use Rattle.study.specs.Moments.{moment}
 use Rattle.study.specs.Pieces.{pieces, put_slots}
-use Rattle.study.specs.Steps.{Leaves, keep}
+use Rattle.study.specs.Steps.{Leaves, recorded}
 use Rattle.study.proofs.Pieced.{count_most}
 use Rattle.study.proofs.study.Study.split.Goals as goal
 
@@ -23,7 +23,7 @@ returns-clause-split c kept enough =
     let bound = c.args.bound.now in
     let before = moment s c.args.ledger.now c.args.pending.now in
     let after = moment c.record.new.self c.record.new.ledger c.write_pieces.new.list in
-    let left : ℕ → List ℕ → Type 0 = λ m p. Leaves before (state.Running c.args.room) (s.ledger + 1) m (keep before bound) p after in
+    let left : ℕ → List ℕ → Type 0 = λ m p. Leaves before (state.Running c.args.room) (s.ledger + 1) m (recorded before bound) p after in
     let rows = c.len-rows.ensures.rows in
     let many = ap (λ n. s.pending - 1 + n) (c.count_pieces.ensures ∙ ap (λ n. length (pieces taken bound n)) rows) in
     let written = c.write_pieces.ensures ∙ ap (λ n. put_slots c.args.pending.now s.pending (pieces taken bound n)) rows in
