@@ -8,7 +8,7 @@ use Rattle.study.specs.declared.study.Study.{Study}
 use Rattle.study.specs.declared.room.Room.{Room}
 use Rattle.study.specs.Moments.{moment}
 use Rattle.study.specs.Begins.{HasRoom}
-use Rattle.study.specs.Histories.{Tally, History, Means}
+use Rattle.study.specs.Histories.{Since, History, Means}
 use Rattle.study.specs.Searches.{Searched, Searches, SearchPromise}
 use Rattle.marking.specs.Reports.{board_answer, HasHistory, SearchedTo, slots}
 
@@ -22,7 +22,7 @@ pub has_slots : (l p : List ℕ) (s : Study) → length l ≡ 6144 → length p 
 has_slots l p s ll pp = ((omega arith, omega arith, ll), (omega arith, omega arith, pp))
 
 module _ (t : Overhead NamedTest) (s after : Study) (l p l' p' : List ℕ) (r : Result (Unit {0}) Fault) (ll : length l ≡ 6144) (pp : length p ≡ 6144) (searches : Searches board_answer t (moment s l p) r (moment after l' p')) (row : 1 ≤ length (view s.table)) where
-  pub search_ended : IfOk r (λ _. Means board_answer t (moment after l' p')) → ((c : Tally) → History board_answer t (moment s l p) c → SearchPromise board_answer t (moment s l p) (moment after l' p') c r) → HasHistory s → (r ≡ Ok tt) × SearchedTo t s after
+  pub search_ended : IfOk r (λ _. Means board_answer t (moment after l' p')) → ((c : Since) → History board_answer t (moment s l p) c → SearchPromise board_answer t (moment s l p) (moment after l' p') c r) → HasHistory s → (r ≡ Ok tt) × SearchedTo t s after
   search_ended means promise history =
       let has = has_slots l p s ll pp in
       let on = (searches.1 row).1 (slots, has) in

@@ -19,7 +19,7 @@ use Rattle.study.specs.declared.room.Room.{Room}
 use Rattle.study.specs.Counts.{finding_in}
 use Rattle.study.specs.Moments.{Moment, moment}
 use Rattle.study.specs.Begins.{HasRoom}
-use Rattle.study.specs.Histories.{Tally, History, Means}
+use Rattle.study.specs.Histories.{Since, History, Means}
 use Rattle.study.specs.Searches.{Searched}
 use Rattle.sheets.specs.declared.form.Column.TheVariants.{Wcet, Period, Deadline, Estimate}
 use Rattle.sheets.specs.declared.sheet.Sheet.{Sheet}
@@ -45,7 +45,7 @@ pub record RowsOf (tasks : Sheet) (n : ℕ) (rows : List Row) : Type 0 where
 
 -- a study that calls have led to, under any test and with any lists
 abbrev pub HasHistory : Study → Type 0
-HasHistory s = (t : Overhead NamedTest) (ledger pending : List ℕ) → (c : Tally) × History board_answer t (moment s ledger pending) c
+HasHistory s = (t : Overhead NamedTest) (ledger pending : List ℕ) → (c : Since) × History board_answer t (moment s ledger pending) c
 
 -- the estimate in the k-th value line of the answer is that of the row in the order's k-th place
 abbrev pub EstimatesOf : Sheet → List ℕ → List ℕ → ℕ → Type 0

@@ -11,12 +11,12 @@ use Rattle.study.specs.Slots.{HasSlots}
 use Rattle.study.specs.Moments.{Moment, moment, rows_of}
 use Rattle.study.specs.Begins.{HasRoom, Begins}
 use Rattle.study.specs.Steps.{Runs, Stepped, Steps, none, keeps, keep_stops, finds, splits, split_stops}
-use Rattle.study.specs.Histories.{Tally, other, Promise, History, begin, no_begin, step}
+use Rattle.study.specs.Histories.{Since, other, Promise, History, begin, no_begin, step}
 use Rattle.study.specs.Searches.{Leads, begins, steps, Searches, SearchPromise}
 use Rattle.study.proofs.Lawful.{room_of, KeepsAt, Told, begun_keeps, told_begun, stepped_keeps, told_stepped, begin_accepted, begin_refused, step_accepted, counted_running, ok≢err, ready, law}
 
-abbrev tally_at : Room → ℕ → Bool → Tally
-tally_at room n stepped = record { slots = room.ledger; steps = n; stepped = stepped }
+abbrev since_at : Room → ℕ → Bool → Since
+since_at room n stepped = record { slots = room.ledger; steps = n; stepped = stepped }
 
 module _ {T : Type 0} (answer : T → List Row → ℕ → List Bool → List ℕ → Option ℕ) (t : T) where
   -- n accepted steps after the accepted begin: what is kept, and that every history to the beginning leads here
@@ -25,10 +25,10 @@ module _ {T : Type 0} (answer : T → List Row → ℕ → List Bool → List �
     pub stepped : Bool
     pub leads : Leads answer t room before count m
     pub at : KeepsAt answer t m
-    pub told : Told m (tally_at room count stepped)
+    pub told : Told m (since_at room count stepped)
     pub same : count ≡ m.study.steps
     pub alive : (Runs room m) ⊎ ((verdicts m.study.state ≡ 1) × (stepped ≡ true))
-    pub past : (c : Tally) → History answer t before c → History answer t m (tally_at room count stepped)
+    pub past : (c : Since) → History answer t before c → History answer t m (since_at room count stepped)
 
   pub going_begun : (room : Room) (before after : Moment) → HasRoom room before → Begins before (Ok tt) after → (r : Room) × HasRoom r before × Going r before after
   going_begun room before after has begun =
@@ -85,7 +85,7 @@ module _ {T : Type 0} (answer : T → List Row → ℕ → List Bool → List �
           stepped = true;
           leads = steps going.leads (ap verdicts runs) took;
           at = stepped_keeps answer t laws room m after going.at runs did;
-          told = told_stepped room m after (tally_at room going.count going.stepped) going.told runs answer t did;
+          told = told_stepped room m after (since_at room going.count going.stepped) going.told runs answer t did;
           same = omega (arith, going.same, next.0);
           alive = elim next.1 [ inl on_it ↦ inl on_it | inr verdict ↦ inr (verdict, refl) ];
           past = λ c h. step (going.past c h) after took;
@@ -102,10 +102,10 @@ module _ {T : Type 0} (answer : T → List Row → ℕ → List Bool → List �
       λ _. (λ bad. absurd (bad (room, has)), λ _. (room, has, refl, record { count = going.count; leads = going.leads; bounded = going.told.bounded; ends = ended.0 })),
     )
 
-    pub promise_ended : (laws : Laws answer) → HasRoom room before → (c : Tally) → History answer t before c → SearchPromise answer t before m c (Ok tt)
+    pub promise_ended : (laws : Laws answer) → HasRoom room before → (c : Since) → History answer t before c → SearchPromise answer t before m c (Ok tt)
     promise_ended laws has c h =
         let slots : room.ledger ≡ length before.ledger / 64 = omega (arith, has.0.2) in
-        let promise = law answer t laws m (tally_at room going.count going.stepped) (going.past c h) in (
+        let promise = law answer t laws m (since_at room going.count going.stepped) (going.past c h) in (
           subst (λ n. Promise answer t m (record { slots = n; steps = m.study.steps; stepped = true })) slots
               (subst (λ n. Promise answer t m (record { slots = room.ledger; steps = n; stepped = true })) going.same
               (subst (λ b. Promise answer t m (record { slots = room.ledger; steps = going.count; stepped = b })) ended.1 promise)),
@@ -119,7 +119,7 @@ module _ {T : Type 0} (answer : T → List Row → ℕ → List Bool → List �
     λ some. ((refused.1 some).0, λ q. absurd (ok≢err e (sym ((refused.1 some).1 q).2))),
   )
 
-  pub promise_refused : (laws : Laws answer) (before after : Moment) (e : Fault) → Begins before (Err e) after → (c : Tally) → History answer t before c → (r : Result (Unit {0}) Fault) → IsErr r → SearchPromise answer t before after c r
+  pub promise_refused : (laws : Laws answer) (before after : Moment) (e : Fault) → Begins before (Err e) after → (c : Since) → History answer t before c → (r : Result (Unit {0}) Fault) → IsErr r → SearchPromise answer t before after c r
   promise_refused laws before after e refused c h (Ok x) err = absurd (false≢true err)
   promise_refused laws before after e refused c h (Err x) err =
       let same = begin_refused before after e refused in

@@ -20,7 +20,7 @@ use Rattle.study.specs.Calls.{IsDraft, EditsBy}
 use Rattle.study.specs.Moments.{Moment, moment, rows_of}
 use Rattle.study.specs.Begins.{HasRoom, Begun, Begins}
 use Rattle.study.specs.Steps.{Runs, AsLeft, Leaves, Stepped, Steps, none, keeps, keep_stops, finds, splits, split_stops}
-use Rattle.study.specs.Histories.{Tally, begun, one_more, other, Means, Promise, StepPromise, History, Law, Shows, start, edit, begin, no_begin, step, no_step}
+use Rattle.study.specs.Histories.{Since, begun, one_more, other, Means, Promise, StepPromise, History, Law, Shows, start, edit, begin, no_begin, step, no_step}
 use Rattle.study.proofs.Sought.{Holding, AllBarred, Sought, sought_kept, sought_split, slot_full}
 use Rattle.study.proofs.Standing.{finding_shows, every_late}
 use Rattle.study.proofs.Started.{sought_begun}
@@ -158,13 +158,13 @@ pub counted_running : (s : Study) (room : Room) → s.state ≡ state.Running ro
 counted_running s room is = let c = subst (λ x. Counted x s.ledger s.pending s.steps) is s.counted in (c.0, omega (arith, c.4), c.1)
 
 -- A moment's tally: while a search is running, it is that of the search.
-pub record Told (m : Moment) (c : Tally) : Type 0 where
+pub record Told (m : Moment) (c : Since) : Type 0 where
   pub bounded : c.steps ≤ c.slots + 1
   pub last : c.stepped ≡ true → c.steps ≡ c.slots + 1 → verdicts m.study.state ≡ 1
   pub runs : (room : Room) → Runs room m → (c.slots ≡ room.ledger) × (c.steps ≡ m.study.steps)
 
 -- a refused call, or an edit
-told_other : (m after : Moment) (c : Tally) → Told m c → after.study ≡ m.study → Told after (other c)
+told_other : (m after : Moment) (c : Since) → Told m c → after.study ≡ m.study → Told after (other c)
 told_other m after c told same = record {
   bounded = told.bounded;
   last = λ no. absurd (false≢true no);
@@ -186,7 +186,7 @@ told_begun room after slots same is steps = record {
   runs = λ r runs. (same ∙ ap (λ (x : Room). x.ledger) (ap (room_of room) (sym is ∙ runs)), sym steps);
 }
 
-module _ (room : Room) (before after : Moment) (c : Tally) (told : Told before c) (runs : Runs room before) where
+module _ (room : Room) (before after : Moment) (c : Since) (told : Told before c) (runs : Runs room before) where
   step_bounded : c.steps + 1 ≤ c.slots + 1
   step_bounded = let was = told.runs room runs in let few = counted_running before.study room runs in omega (arith, was.0, was.1, few.0, few.1)
 
@@ -275,15 +275,15 @@ module _ {T : Type 0} (answer : T → List Row → ℕ → List Bool → List �
   means m at = record { found = at.stands.found; none = at.stands.none; ledger = at.stands.barred; covered = at.stands.covered }
 
   -- a call that leaves the study as it was
-  as_it_was : (m : Moment) (c : Tally) (s : Study) → s ≡ m.study → KeepsAt answer t m × Told m c → KeepsAt answer t (moment s m.ledger m.pending) × Told (moment s m.ledger m.pending) (other c)
+  as_it_was : (m : Moment) (c : Since) (s : Study) → s ≡ m.study → KeepsAt answer t m × Told m c → KeepsAt answer t (moment s m.ledger m.pending) × Told (moment s m.ledger m.pending) (other c)
   as_it_was m c s same was = (subst (λ x. KeepsAt answer t (moment x m.ledger m.pending)) (sym same) was.0, told_other m (moment s m.ledger m.pending) c was.1 same)
 
-  edited : (m : Moment) (c : Tally) (s : Study) (r : Result (Unit {0}) Fault) → IfOk r (λ _. IsDraft s) × IfErr r (λ _. s ≡ m.study) → KeepsAt answer t m × Told m c → KeepsAt answer t (moment s m.ledger m.pending) × Told (moment s m.ledger m.pending) (other c)
+  edited : (m : Moment) (c : Since) (s : Study) (r : Result (Unit {0}) Fault) → IfOk r (λ _. IsDraft s) × IfErr r (λ _. s ≡ m.study) → KeepsAt answer t m × Told m c → KeepsAt answer t (moment s m.ledger m.pending) × Told (moment s m.ledger m.pending) (other c)
   edited m c s (Ok x) parts was = (draft_keeps answer t s m.ledger m.pending parts.0, told_draft (moment s m.ledger m.pending) c.slots c.steps was.1.bounded parts.0.state)
   edited m c s (Err e) parts was = as_it_was m c s parts.1 was
 
   module _ (laws : Laws answer) where
-    along : {m : Moment} {c : Tally} → History answer t m c → KeepsAt answer t m × Told m c
+    along : {m : Moment} {c : Since} → History answer t m c → KeepsAt answer t m × Told m c
     along (start s l p new) = (draft_keeps answer t s l p new.1, told_draft (moment s l p) 0 0 (omega arith) new.1.state)
     along (edit {m} {c} h e r s edits) = edited m c s r (edit_parts e m.study r s edits) (along h)
     along (begin {m} {c} h l p after room has begins) =
@@ -308,7 +308,7 @@ module _ {T : Type 0} (answer : T → List Row → ℕ → List Bool → List �
         }
 
     -- the promise after a step from the end of a history
-    pub step_promise : (m after : Moment) (c : Tally) (r : Result (Unit {0}) Fault) → Steps answer t m r after → History answer t m c → StepPromise answer t after c r
+    pub step_promise : (m after : Moment) (c : Since) (r : Result (Unit {0}) Fault) → Steps answer t m r after → History answer t m c → StepPromise answer t after c r
     step_promise m after c (Ok x) steps h = (law after (one_more c) (step h after steps), tt)
     step_promise m after c (Err e) steps h =
         let same = step_refused m after e steps in

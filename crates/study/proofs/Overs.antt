@@ -4,7 +4,7 @@ use Rattle.std.proofs.lemmas.List.{append_assoc, drop-drop, length-append, ext_g
 use Rattle.std.proofs.lemmas.Bool.{cases_lt}
 use Rattle.std.proofs.lemmas.Grind.{elements}
 use Rattle.orders.specs.declared.range.Range.{Range}
-use Rattle.study.specs.Slots.{over, slot, put_slot}
+use Rattle.study.specs.Slots.{written_over, slot, put_slot}
 
 module _ (xs : List ℕ) (a : ℕ) (ys : List ℕ) (le : a + length ys ≤ length xs) where
   front : length (take a xs ++ ys) ≡ a + length ys
@@ -14,27 +14,27 @@ module _ (xs : List ℕ) (a : ℕ) (ys : List ℕ) (le : a + length ys ≤ lengt
   regrouped rest = sym (append_assoc (take a xs) ys rest)
 
   -- a part written just past another is both written at once
-  pub over_over : (zs : List ℕ) → over (over xs a ys) (a + length ys) zs ≡ over xs a (ys ++ zs)
+  pub over_over : (zs : List ℕ) → written_over (written_over xs a ys) (a + length ys) zs ≡ written_over xs a (ys ++ zs)
   over_over zs =
       let n = a + length ys in
       let rest = drop n xs in
-      let before : take n (over xs a ys) ≡ take a xs ++ ys = ap (take n) (regrouped rest) ∙ take_at (take a xs ++ ys) rest n front in
-      let after : drop n (over xs a ys) ≡ rest = ap (drop n) (regrouped rest) ∙ drop_at (take a xs ++ ys) rest n front in
+      let before : take n (written_over xs a ys) ≡ take a xs ++ ys = ap (take n) (regrouped rest) ∙ take_at (take a xs ++ ys) rest n front in
+      let after : drop n (written_over xs a ys) ≡ rest = ap (drop n) (regrouped rest) ∙ drop_at (take a xs ++ ys) rest n front in
       let count : n + length zs ≡ a + length (ys ++ zs) = omega (arith, length-append ys zs) in
-      let past : drop (n + length zs) (over xs a ys) ≡ drop (a + length (ys ++ zs)) xs = sym (drop-drop (length zs) n (over xs a ys)) ∙ ap (drop (length zs)) after ∙ drop-drop (length zs) n xs ∙ ap (λ m. drop m xs) count in
+      let past : drop (n + length zs) (written_over xs a ys) ≡ drop (a + length (ys ++ zs)) xs = sym (drop-drop (length zs) n (written_over xs a ys)) ∙ ap (drop (length zs)) after ∙ drop-drop (length zs) n xs ∙ ap (λ m. drop m xs) count in
       ap₂ (λ u v. u ++ (zs ++ v)) before past ∙ append_assoc (take a xs) ys _ ∙ ap (λ l. take a xs ++ l) (sym (append_assoc ys zs _))
 
 module _ (xs : List ℕ) (a : ℕ) (ys : List ℕ) (le : a + length ys ≤ length xs) where
-  pub length_over : length (over xs a ys) ≡ length xs
+  pub length_over : length (written_over xs a ys) ≡ length xs
   length_over = grind (arith, elements)
 
-  pub over_below : (j d : ℕ) → j < a → get_or (over xs a ys) j d ≡ get_or xs j d
+  pub over_below : (j d : ℕ) → j < a → get_or (written_over xs a ys) j d ≡ get_or xs j d
   over_below j d h = grind (arith, elements)
 
-  pub over_in : (j d : ℕ) → a ≤ j → j < a + length ys → get_or (over xs a ys) j d ≡ get_or ys (j - a) d
+  pub over_in : (j d : ℕ) → a ≤ j → j < a + length ys → get_or (written_over xs a ys) j d ≡ get_or ys (j - a) d
   over_in j d h l = grind (arith, elements)
 
-  pub over_past : (j d : ℕ) → a + length ys ≤ j → get_or (over xs a ys) j d ≡ get_or xs j d
+  pub over_past : (j d : ℕ) → a + length ys ≤ j → get_or (written_over xs a ys) j d ≡ get_or xs j d
   over_past j d h = grind (arith, elements)
 
 pub same_range : (a b : Range) → a.lows ≡ b.lows → a.highs ≡ b.highs → a ≡ b
@@ -49,22 +49,22 @@ part_length n b zs = length-take n (drop b zs) ∙ ap (min n) (length-drop b zs)
 
 module _ (xs : List ℕ) (a : ℕ) (ys : List ℕ) (le : a + length ys ≤ length xs) where
   -- a part of what was written
-  pub part_in : (i n : ℕ) → i + n ≤ length ys → take n (drop (a + i) (over xs a ys)) ≡ take n (drop i ys)
+  pub part_in : (i n : ℕ) → i + n ≤ length ys → take n (drop (a + i) (written_over xs a ys)) ≡ take n (drop i ys)
   part_in i n h = ext_get_or 0 _ _
-      (omega (arith, part_length n (a + i) (over xs a ys), part_length n i ys, length_over xs a ys le))
+      (omega (arith, part_length n (a + i) (written_over xs a ys), part_length n i ys, length_over xs a ys le))
       (λ j l.
-      let lt : j < n = omega (arith, part_length n (a + i) (over xs a ys)) in
+      let lt : j < n = omega (arith, part_length n (a + i) (written_over xs a ys)) in
       let e : a + i + j - a ≡ i + j = omega arith in
-      part_at n (a + i) (over xs a ys) j 0 lt ∙ over_in xs a ys le (a + i + j) 0 (omega arith) (omega arith) ∙ ap (λ k. get_or ys k 0) e ∙ sym (part_at n i ys j 0 lt))
+      part_at n (a + i) (written_over xs a ys) j 0 lt ∙ over_in xs a ys le (a + i + j) 0 (omega arith) (omega arith) ∙ ap (λ k. get_or ys k 0) e ∙ sym (part_at n i ys j 0 lt))
 
   -- a part beside it
-  pub part_out : (b n : ℕ) → (b + n ≤ a) ⊎ (a + length ys ≤ b) → take n (drop b (over xs a ys)) ≡ take n (drop b xs)
+  pub part_out : (b n : ℕ) → (b + n ≤ a) ⊎ (a + length ys ≤ b) → take n (drop b (written_over xs a ys)) ≡ take n (drop b xs)
   part_out b n h = ext_get_or 0 _ _
-      (omega (arith, part_length n b (over xs a ys), part_length n b xs, length_over xs a ys le))
+      (omega (arith, part_length n b (written_over xs a ys), part_length n b xs, length_over xs a ys le))
       (λ j l.
-      let lt : j < n = omega (arith, part_length n b (over xs a ys)) in
-      let at : get_or (over xs a ys) (b + j) 0 ≡ get_or xs (b + j) 0 = elim h [ inl below ↦ over_below xs a ys le (b + j) 0 (omega arith) | inr past ↦ over_past xs a ys le (b + j) 0 (omega arith) ] in
-      part_at n b (over xs a ys) j 0 lt ∙ at ∙ sym (part_at n b xs j 0 lt))
+      let lt : j < n = omega (arith, part_length n b (written_over xs a ys)) in
+      let at : get_or (written_over xs a ys) (b + j) 0 ≡ get_or xs (b + j) 0 = elim h [ inl below ↦ over_below xs a ys le (b + j) 0 (omega arith) | inr past ↦ over_past xs a ys le (b + j) 0 (omega arith) ] in
+      part_at n b (written_over xs a ys) j 0 lt ∙ at ∙ sym (part_at n b xs j 0 lt))
 
 -- a range of 32 rows
 pub record Full (r : Range) : Type 0 where

@@ -18,41 +18,41 @@ use Rattle.study.specs.Begins.{HasRoom, Begins}
 use Rattle.study.specs.Steps.{Runs, AsLeft, Steps}
 
 -- What a history counts: the ledger slots of the last accepted begin, the accepted steps since, and whether the last call was an accepted step.
-pub record Tally : Type 0 where
+pub record Since : Type 0 where
   pub slots : ℕ
   pub steps : ℕ
   pub stepped : Bool
 
 -- before any call
-abbrev pub none_begun : Tally
+abbrev pub none_begun : Since
 none_begun = record { slots = 0; steps = 0; stepped = false }
 
 -- after an accepted begin on a ledger of n slots
-abbrev pub begun : ℕ → Tally
+abbrev pub begun : ℕ → Since
 begun n = record { slots = n; steps = 0; stepped = false }
 
 -- after an accepted step
-abbrev pub one_more : Tally → Tally
+abbrev pub one_more : Since → Since
 one_more c = record { slots = c.slots; steps = c.steps + 1; stepped = true }
 
 -- after any other call
-abbrev pub other : Tally → Tally
+abbrev pub other : Since → Since
 other c = record { slots = c.slots; steps = c.steps; stepped = false }
 
 module _ {T : Type 0} (answer : T → List Row → ℕ → List Bool → List ℕ → Option ℕ) (t : T) where
   -- A history of calls under one test: it begins with a new study and two lists of any length and contents, and nothing but its calls writes to them.
-  pub data History : Moment → Tally → Type 0 where
+  pub data History : Moment → Since → Type 0 where
     start : (s : Study) (l p : List ℕ) → IsNew s → History (moment s l p) none_begun
     -- an edit, accepted or refused
-    edit : {m : Moment} {c : Tally} → History m c → (e : Edit) (r : Result (Unit {0}) Fault) (s : Study) → EditsBy e m.study r s → History (moment s m.ledger m.pending) (other c)
+    edit : {m : Moment} {c : Since} → History m c → (e : Edit) (r : Result (Unit {0}) Fault) (s : Study) → EditsBy e m.study r s → History (moment s m.ledger m.pending) (other c)
     -- an accepted begin, on the lists at hand or on two others, which take their place
-    begin : {m : Moment} {c : Tally} → History m c → (l p : List ℕ) (after : Moment) (room : Room) → HasRoom room (moment m.study l p) → Begins (moment m.study l p) (Ok tt) after → History after (begun room.ledger)
+    begin : {m : Moment} {c : Since} → History m c → (l p : List ℕ) (after : Moment) (room : Room) → HasRoom room (moment m.study l p) → Begins (moment m.study l p) (Ok tt) after → History after (begun room.ledger)
     -- a refused begin, on any lists: those at hand stay
-    no_begin : {m : Moment} {c : Tally} → History m c → (l p : List ℕ) (after : Moment) (e : Fault) → Begins (moment m.study l p) (Err e) after → History (moment after.study m.ledger m.pending) (other c)
+    no_begin : {m : Moment} {c : Since} → History m c → (l p : List ℕ) (after : Moment) (e : Fault) → Begins (moment m.study l p) (Err e) after → History (moment after.study m.ledger m.pending) (other c)
     -- an accepted step, on the lists at hand
-    step : {m : Moment} {c : Tally} → History m c → (after : Moment) → Steps answer t m (Ok tt) after → History after (one_more c)
+    step : {m : Moment} {c : Since} → History m c → (after : Moment) → Steps answer t m (Ok tt) after → History after (one_more c)
     -- a refused step, on any lists: those at hand stay
-    no_step : {m : Moment} {c : Tally} → History m c → (l p : List ℕ) (after : Moment) (e : Fault) → Steps answer t (moment m.study l p) (Err e) after → History (moment after.study m.ledger m.pending) (other c)
+    no_step : {m : Moment} {c : Since} → History m c → (l p : List ℕ) (after : Moment) (e : Fault) → Steps answer t (moment m.study l p) (Err e) after → History (moment after.study m.ledger m.pending) (other c)
 
   -- what is shown on found: the order lists every row once, no task of it is late, and it passes the estimates
   abbrev pub Shows : List Row → Finding → Type 0
@@ -72,7 +72,7 @@ module _ {T : Type 0} (answer : T → List Row → ℕ → List Bool → List �
     pub covered : m.study.state ≡ state.None → (estimates : List ℕ) → Estimates (rows_of m) estimates → (k : ℕ) × (1 ≤ k) × (k ≤ m.study.ledger) × LiesIn (rows_of m) estimates (slot m.ledger k)
 
   -- What is promised of a moment.
-  pub record Promise (m : Moment) (c : Tally) : Type 0 where
+  pub record Promise (m : Moment) (c : Since) : Type 0 where
     pub means : Means m
     -- the steps are as many as the ledger ranges, and one more if there is a verdict
     pub counted : m.study.steps ≡ m.study.ledger + verdicts m.study.state
@@ -85,8 +85,8 @@ module _ {T : Type 0} (answer : T → List Row → ℕ → List Bool → List �
 
   -- The law: the promise holds after each call of every history.
   abbrev pub Law : Type 0
-  Law = (m : Moment) (c : Tally) → History m c → Promise m c
+  Law = (m : Moment) (c : Since) → History m c → Promise m c
 
   -- the promise after a step that was accepted or refused
-  abbrev pub StepPromise : Moment → Tally → Result (Unit {0}) Fault → Type 0
+  abbrev pub StepPromise : Moment → Since → Result (Unit {0}) Fault → Type 0
   StepPromise after c r = IfOk r (λ _. Promise after (one_more c)) × IfErr r (λ _. Promise after (other c))

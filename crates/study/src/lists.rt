@@ -2,7 +2,7 @@
 ghost use Rattle.std.specs.Prelude.{◌≡◌, ℕ, ◌+◌, ◌*◌, ◌≤◌, ◌↔◌, length, take, drop, IfSome, IfNone, IsTrue};
 ghost use Rattle.table.specs.Rows.{view};
 ghost use Rattle.study.specs.Steps.{ZeroPast, IsSlot};
-ghost use Rattle.study.specs.Slots.{over, slot, put_slot, HasSlots};
+ghost use Rattle.study.specs.Slots.{written_over, slot, put_slot, HasSlots};
 
 use orders::assign::is_range;
 use orders::range::Range;
@@ -17,7 +17,7 @@ const ROWS: usize = 32;
 // The most slots that a list may have.
 const MOST: usize = 4096;
 
-// How many slots a list has, if it has 1 to 4,096 whole ones and nothing over.
+// How many slots a list has, if it has 1 to 4,096 whole ones and nothing written_over.
 pub(crate) fn slots_in(list: &[u32]) -> Option<usize>
     ensures some { IfSome result (λ slots. HasSlots list.now slots) }
     ensures none { IfNone result ((slots : ℕ) → HasSlots list.now slots → ⊥) }
@@ -32,7 +32,7 @@ pub(crate) fn slots_in(list: &[u32]) -> Option<usize>
 // Writes 32 numbers, the first at a place counted from 0.
 fn write_part(list: &mut [u32], at: usize, part: &[u32; 32])
     requires { at + 32 ≤ length list.old }
-    ensures { list.new ≡ over list.old at part.now }
+    ensures { list.new ≡ written_over list.old at part.now }
 {
     list[at..at + ROWS].copy_from_slice(part);
 }

@@ -5,14 +5,14 @@ ghost use Rattle.study.specs.Pieces.{pieces, put_slots};
 use crate::lists::write_slot;
 use orders::range::Range;
 
-// How many pieces there are: one for each row whose high in `bound` is below its taken high.
-pub(crate) fn count_pieces(rows: usize, taken: &Range, bound: &Range) -> usize
+// How many pieces there are: one for each row whose high in `grown` is below its taken high.
+pub(crate) fn count_pieces(rows: usize, taken: &Range, grown: &Range) -> usize
     requires { rows ≤ 32 }
-    ensures { result ≡ length (pieces taken.now bound.now rows) }
+    ensures { result ≡ length (pieces taken.now grown.now rows) }
 {
     let mut count = 0;
     for place in 0..rows {
-        if bound.highs[place] < taken.highs[place] {
+        if grown.highs[place] < taken.highs[place] {
             count += 1;
         }
     }
@@ -20,15 +20,15 @@ pub(crate) fn count_pieces(rows: usize, taken: &Range, bound: &Range) -> usize
 }
 
 // Writes the pieces into the slots from `k` on.
-pub(crate) fn write_pieces(list: &mut [u32], k: usize, rows: usize, taken: &Range, bound: &Range)
+pub(crate) fn write_pieces(list: &mut [u32], k: usize, rows: usize, taken: &Range, grown: &Range)
     requires few { (rows ≤ 32) × (k ≤ 4096) }
-    requires room { (1 ≤ k) × (64 * (k - 1 + length (pieces taken.now bound.now rows)) ≤ length list.old) }
-    ensures { list.new ≡ put_slots list.old k (pieces taken.now bound.now rows) }
+    requires room { (1 ≤ k) × (64 * (k - 1 + length (pieces taken.now grown.now rows)) ≤ length list.old) }
+    ensures { list.new ≡ put_slots list.old k (pieces taken.now grown.now rows) }
 {
     let mut slot = k;
     let mut cut = *taken;
     for place in 0..rows {
-        let high = bound.highs[place];
+        let high = grown.highs[place];
         if high < taken.highs[place] {
             let mut piece = cut;
             piece.lows[place] = high + 1;

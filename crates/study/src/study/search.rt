@@ -2,7 +2,7 @@
 ghost use Rattle.std.specs.Prelude.{◌≡◌, ◌↔◌, IfOk, IsTrue};
 ghost use Rattle.study.specs.declared.room.Room.{Room as OneRoom};
 ghost use Rattle.study.specs.declared.state.State.TheVariants as state;
-ghost use Rattle.study.specs.Histories.{Tally, History, Law, Means};
+ghost use Rattle.study.specs.Histories.{Since, History, Law, Means};
 ghost use Rattle.study.specs.Moments.{moment};
 ghost use Rattle.study.specs.Searches.{Searches, SearchPromise};
 
@@ -30,7 +30,7 @@ impl Study {
         ensures means { IfOk result (λ _. Means T.answer test.now (moment self.new ledger.new pending.new)) }
         ensures law { Law T.answer test.now }
         ensures promise { let before = moment self.old ledger.old pending.old in
-            (c : Tally) → History T.answer test.now before c → SearchPromise T.answer test.now before (moment self.new ledger.new pending.new) c result }
+            (c : Since) → History T.answer test.now before c → SearchPromise T.answer test.now before (moment self.new ledger.new pending.new) c result }
     {
         self.begin(ledger, pending)?;
         while self.is_running() {

@@ -1,5 +1,5 @@
 // The machine: a study's state and a call, together.
-ghost use Rattle.study.specs.Histories.{Tally, History, Law, StepPromise};
+ghost use Rattle.study.specs.Histories.{Since, History, Law, StepPromise};
 ghost use Rattle.study.specs.Machine.{Calls};
 ghost use Rattle.study.specs.Moments.{moment};
 ghost use Rattle.study.specs.Steps.{Steps};
@@ -46,7 +46,7 @@ impl Study {
     ) -> Result<(), Fault>
         ensures does { Steps T.answer test.now (moment self.old ledger.old pending.old) result (moment self.new ledger.new pending.new) }
         ensures law { Law T.answer test.now }
-        ensures promise { (c : Tally) → History T.answer test.now (moment self.old ledger.old pending.old) c →
+        ensures promise { (c : Since) → History T.answer test.now (moment self.old ledger.old pending.old) c →
             StepPromise T.answer test.now (moment self.new ledger.new pending.new) c result }
     {
         self.call(Call::Step, test, ledger, pending)

@@ -68,7 +68,7 @@ impl Study {
         &mut self,
         room: Room,
         taken: &Range,
-        bound: &Range,
+        grown: &Range,
         ledger: &mut [u32],
         pending: &mut [u32],
     )
@@ -76,20 +76,20 @@ impl Study {
         requires some { 1 ≤ self.old.pending }
         requires long { (length ledger.old ≡ 64 * room.ledger) × (length pending.old ≡ 64 * room.pending) }
         ensures split { let m = moment self.old ledger.old pending.old in
-            let ps = pieces taken.now bound.now (length (view self.old.table)) in
+            let ps = pieces taken.now grown.now (length (view self.old.table)) in
             self.old.ledger < room.ledger → self.old.pending - 1 + length ps ≤ room.pending →
-            Leaves m (state.Running room) (self.old.ledger + 1) (self.old.pending - 1 + length ps) (recorded m bound.now) (put_slots pending.old self.old.pending ps) (moment self.new ledger.new pending.new) }
-        ensures full { let ps = pieces taken.now bound.now (length (view self.old.table)) in
+            Leaves m (state.Running room) (self.old.ledger + 1) (self.old.pending - 1 + length ps) (recorded m grown.now) (put_slots pending.old self.old.pending ps) (moment self.new ledger.new pending.new) }
+        ensures full { let ps = pieces taken.now grown.now (length (view self.old.table)) in
             (room.ledger ≤ self.old.ledger) ⊎ (room.pending < self.old.pending - 1 + length ps) →
             Ends (moment self.old ledger.old pending.old) state.Stopped (moment self.new ledger.new pending.new) }
     {
         let rows = self.table.len();
-        let left = self.pending - 1 + count_pieces(rows, taken, bound);
+        let left = self.pending - 1 + count_pieces(rows, taken, grown);
         if self.ledger == room.ledger || left > room.pending {
             return self.end(room, State::Stopped);
         }
-        write_pieces(pending, self.pending, rows, taken, bound);
-        self.record(room, bound, ledger, left);
+        write_pieces(pending, self.pending, rows, taken, grown);
+        self.record(room, grown, ledger, left);
     }
 
     // Does one step's work with the last pending range.
@@ -110,7 +110,7 @@ impl Study {
         match Turn::new(test, &self.table, taken) {
             Turn::Keep(grown) => self.keep(room, &grown, ledger),
             Turn::Find(finding) => self.end(room, State::Found(finding)),
-            Turn::Split(bound) => self.split(room, taken, &bound, ledger, pending),
+            Turn::Split(grown) => self.split(room, taken, &grown, ledger, pending),
         }
     }
 

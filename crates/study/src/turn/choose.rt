@@ -30,7 +30,7 @@ impl Turn {
                 order,
                 estimates: taken.lows,
             }),
-            Settled::Grown(bound) => Turn::Split(bound),
+            Settled::Grown(grown) => Turn::Split(grown),
         }
     }
 }

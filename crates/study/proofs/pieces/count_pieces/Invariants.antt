@@ -3,4 +3,4 @@ use Rattle.study.specs.Pieces.{pieces}
 use Rattle.study.proofs.pieces.count_pieces.Given as goal
 
 abbrev pub invariant-loop-place : goal.invariant-loop-place
-invariant-loop-place l = l.count ≡ length (pieces l.taken l.bound l.place)
+invariant-loop-place l = l.count ≡ length (pieces l.taken l.grown l.place)

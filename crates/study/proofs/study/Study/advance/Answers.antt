@@ -15,4 +15,4 @@ returns-in-Find g c =
 pub returns-in-Split : goal.returns-in-Split
 returns-in-Split g c =
     stepped_split g.T.Test.answer c.args.test.now c.args.room (moment c.args.self.now c.args.ledger.now c.args.pending.now) (moment c.split.new.self c.split.new.ledger c.split.new.pending)
-    c.requires.some c.args.taken.now c.requires.taken c.in-Split.bound (record { turn = c.in-Split.ensures; has = c.split.ensures.split; lacks = c.split.ensures.full })
+    c.requires.some c.args.taken.now c.requires.taken c.in-Split.grown (record { turn = c.in-Split.ensures; has = c.split.ensures.split; lacks = c.split.ensures.full })
