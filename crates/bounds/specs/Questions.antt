@@ -9,7 +9,7 @@ use Rattle.bounds.specs.declared.question.Question.{Question}
 abbrev pub In : List Bool → ℕ → Type 0
 In set k = nth set k false ≡ true
 
--- A question is sound if its task is in the table, the tasks above are in the table without it, and each estimate lies from its row's C to its D.
+-- A question is sound if its task is in the table, the tasks above, of the 32 places that a set has, are in the table without it, and each estimate lies from its row's C to its D.
 pub record Sound (rows : List Row) (task : ℕ) (above : List Bool) (estimates : List ℕ) : Type 0 where
   pub few : length rows ≤ 32
   pub names : Names rows task

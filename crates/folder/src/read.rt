@@ -28,7 +28,7 @@ fn open_start<R: Files + AllocGlobal>(rt: &R, path: &str) -> io::Result<Vec<u8>>
     }
 }
 
-/// The text of the sheet in a file: none where the file cannot be read.
+/// The text of the sheet in a file: empty where the file cannot be read.
 pub fn read_sheet<R: Files + AllocGlobal>(rt: &R, path: &str) -> io::Result<Vec<u8>>
     ensures { IfErr result (λ error. error_kind error ≡ ErrorKind.OutOfMemory) }
 {

@@ -1,4 +1,4 @@
-// What `mark` says of a board, a table and an answer.
+// What `mark` says of a board, its tasks and an answer.
 
 /// How the search ended.
 #[derive(Clone, Copy, PartialEq, Eq, Debug)]

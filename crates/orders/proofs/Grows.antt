@@ -210,12 +210,14 @@ module _ {T : Type 0} {answer : T → List Row → ℕ → List Bool → List �
   -- the grown range is maximal
   pub grown_maximal : (r q : Range) → Within rows r → Shut r → GrownTo answer t rows r (length rows) q → Maximal answer t rows r q
   grown_maximal r q within closed g =
-      let s = state_of r within closed g (omega arith) in
-      (s.contains, record {
-        within = s.within;
-        closed = s.closed;
-        wider = λ w hw wider. elim (open_or_closed w) [
-          | inl o ↦ o
-          | inr shut ↦ absurd (s.maximal w hw wider.0 wider.1.0 wider.1.1 wider.1.1.1 wider.1.2 shut)
-        ];
-      })
+      let s = state_of r within closed g (omega arith) in (
+        s.contains,
+        record {
+          within = s.within;
+          closed = s.closed;
+          wider = λ w hw wider. elim (open_or_closed w) [
+            | inl o ↦ o
+            | inr shut ↦ absurd (s.maximal w hw wider.0 wider.1.0 wider.1.1 wider.1.1.1 wider.1.2 shut)
+          ];
+        },
+      )

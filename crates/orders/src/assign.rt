@@ -109,7 +109,7 @@ pub(crate) fn high_wanted<T: Test>(
     assigner.answer(&left, place + 1)
 }
 
-// Test and table come apart here, in `grow`, `analyse` and `check`: a caller would make a struct for one call.
+// Test and table come apart here, in `settle`, `grow`, `analyse` and `check`: a caller would make a struct for one call.
 /// An order that passes the range, the highest task first, if there is one. Levels are filled from
 /// the lowest up, each by the lowest-numbered task left that passes there.
 pub fn assign<T: Test>(test: &T, table: &Table<Row>, range: &Range) -> Option<[usize; 32]>

@@ -1,4 +1,4 @@
--- The faults: for each case its number, its layer and its place.
+-- The faults: for each case its number, its layer, its place and its words.
 use Rattle.std.specs.Prelude.{ℕ, List, codes}
 use Rattle.table.specs.declared.fault.Place.{Place}
 use Rattle.table.specs.declared.fault.Layer.{Layer}

@@ -49,7 +49,7 @@ impl Study {
         self.pending
     }
 
-    /// How many steps were taken since the last accepted begin.
+    /// The step count: how many steps were taken since the last accepted begin, and 0 in a draft.
     pub fn steps(&self) -> usize
         ensures { result ≡ self.now.steps }
     {
