@@ -41,8 +41,8 @@ module _ {T : Type 0} (answer : T → List Row → ℕ → List Bool → List �
         let row = o.rows p (omega (arith, o.size)) in
         padded_at es (task_at order p) row.0 (omega (arith, row.1))
 
-    meets_is : (p : ℕ) → p < length order → NoMore (answer_with answer t rows order es p) (Some (nth (padded es) (task_at order p) 0)) ≡ MeetsAt answer t rows order es p
-    meets_is p l = ap (λ x. NoMore (answer_with answer t rows order es p) (Some x)) (estimate_is p l)
+    meets_is : (p : ℕ) → p < length order → NoMore (answer_with answer t rows order (padded es) p) (Some (nth (padded es) (task_at order p) 0)) ≡ MeetsAt answer t rows order es p
+    meets_is p l = ap (λ x. NoMore (answer_with answer t rows order (padded es) p) (Some x)) (estimate_is p l)
 
     pub miss_when : (miss : Option Miss) → FirstMiss answer t rows order es miss → NoneWhen miss (PassesBy answer t rows (padded es) (padded es) order)
     miss_when None meets = ((λ _ p l. subst (λ X. X) (sym (meets_is p l)) (meets p l)), λ _. refl)

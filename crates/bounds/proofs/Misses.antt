@@ -20,12 +20,12 @@ module _ {T : Type 0} (answer : T → List Row → ℕ → List Bool → List �
     abbrev task : ℕ
     task = task_at order p
 
-    answered : bound ≡ answer_with answer t rows order es p
+    answered : bound ≡ answer_with answer t rows order (padded es) p
     answered = asked ∙ ap (λ s. answer t rows task s (padded es)) met.above_is
 
     -- the task's answer against its own estimate
     meets_at : NoMore bound (Some (get_or es (task - 1) 0)) ≡ MeetsAt answer t rows order es p
-    meets_at = ap (λ b. NoMore b (Some (get_or es (task - 1) 0))) answered ∙ ap (λ x. NoMore (answer_with answer t rows order es p) (Some x)) (sym (nth_at es task 0 (o.rows p l).0))
+    meets_at = ap (λ b. NoMore b (Some (get_or es (task - 1) 0))) answered ∙ ap (λ x. NoMore (answer_with answer t rows order (padded es) p) (Some x)) (sym (nth_at es task 0 (o.rows p l).0))
 
     pub met_more : NoMore bound (Some (get_or es (task - 1) 0)) → Met (set above (task - 1) true) (p + 1)
     met_more h = record {

@@ -13,13 +13,13 @@ use Rattle.bounds.specs.declared.lc.Lc.{Lc}
 abbrev pub Allowed : ℕ → Type 0
 Allowed m = (1 ≤ m) × (m ≤ 16)
 
--- making m processors: just that many, or a refusal
-abbrev pub MadeProcessors : ℕ → Result Processors Fault → Type 0
-MadeProcessors m r = Asks (Allowed m) (r ≡ Err (BadTest nowhere)) ((p : Processors) × (r ≡ Ok p) × (p.count ≡ m))
-
--- making a test on m processors: on just that many, or a refusal
+-- making a thing on m processors: on just that many, or a refusal
 abbrev pub MadeOn : {T : Type 0} → (T → Processors) → ℕ → Result T Fault → Type 0
 MadeOn {T} processors m r = Asks (Allowed m) (r ≡ Err (BadTest nowhere)) ((t : T) × (r ≡ Ok t) × ((processors t).count ≡ m))
+
+-- making m processors
+abbrev pub MadeProcessors : ℕ → Result Processors Fault → Type 0
+MadeProcessors = MadeOn (λ p. p)
 
 -- making da on m processors
 abbrev pub MadeDa : ℕ → Result Da Fault → Type 0

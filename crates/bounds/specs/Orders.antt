@@ -3,7 +3,7 @@ use Rattle.std.specs.Prelude.{◌≡◌, ℕ, zero, suc, ◌<◌, ◌≤◌, Boo
 use Rattle.table.specs.declared.row.Row.{Row}
 use Rattle.table.specs.declared.fault.Fault.{Fault}
 use Rattle.table.specs.declared.fault.Fault.TheVariants.{Empty, BadOrder, BadLength}
-use Rattle.table.specs.Asking.{Asks}
+use Rattle.table.specs.Asking.{Asks, Refuses}
 use Rattle.table.specs.Faults.{nowhere}
 use Rattle.table.specs.Places.{nth, put}
 use Rattle.table.specs.Rows.{row, Names}
@@ -56,9 +56,13 @@ pub record Estimates (rows : List Row) (estimates : List ℕ) : Type 0 where
   pub within : (k : ℕ) → Names rows k → ((row rows k).wcet ≤ nth estimates k 0) × (nth estimates k 0 ≤ (row rows k).deadline)
 
 module _ {T : Type 0} (answer : T → List Row → ℕ → List Bool → List ℕ → Option ℕ) (t : T) (rows : List Row) where
+  -- the answer for the task that has p tasks above it, with these estimates in 32 places
+  abbrev pub answer_with : List ℕ → List ℕ → ℕ → Option ℕ
+  answer_with order estimates p = answer t rows (task_at order p) (first order p) estimates
+
   -- the answer for the task that has p tasks above it, when these have their bounds
   abbrev pub answer_at : List ℕ → List ℕ → ℕ → Option ℕ
-  answer_at order bounds p = answer t rows (task_at order p) (first order p) (estimated rows order bounds p)
+  answer_at order bounds p = answer_with order (estimated rows order bounds p) p
 
   -- none of the first p tasks of an order is late, and these are their bounds, by row number
   abbrev pub Bounded : List ℕ → List ℕ → ℕ → Type 0
@@ -85,28 +89,24 @@ module _ {T : Type 0} (answer : T → List Row → ℕ → List Bool → List �
   -- analyse: the bounds of the order and its first late task; there is none exactly when the order holds
   abbrev pub Analyses : List ℕ → List ℕ → Result (Option ℕ) Fault → List ℕ → Type 0
   Analyses order before r after =
-      Asks (1 ≤ length rows) ((r ≡ Err Empty) × (after ≡ before))
-      (Asks (Order (length rows) order) ((r ≡ Err (BadOrder nowhere)) × (after ≡ before))
-      (Asks (length before ≡ length rows) ((r ≡ Err BadLength) × (after ≡ before))
+      Asks (1 ≤ length rows) (Refuses Empty before r after)
+      (Asks (Order (length rows) order) (Refuses (BadOrder nowhere) before r after)
+      (Asks (length before ≡ length rows) (Refuses BadLength before r after)
       ((late : Option ℕ) × (r ≡ Ok late) × Found order late after × (length after ≡ length before) × NoneWhen late (Holds order))))
 
-  -- the answer for the task that has p tasks above it, with these estimates
-  abbrev pub answer_with : List ℕ → List ℕ → ℕ → Option ℕ
-  answer_with order estimates p = answer t rows (task_at order p) (first order p) (padded estimates)
-
-  -- that answer is at most the task's own estimate
+  -- the answer of the task that has p tasks above it, with these estimates, is at most its own estimate
   abbrev pub MeetsAt : List ℕ → List ℕ → ℕ → Type 0
-  MeetsAt order estimates p = NoMore (answer_with order estimates p) (Some (nth estimates (task_at order p) 0))
+  MeetsAt order estimates p = NoMore (answer_with order (padded estimates) p) (Some (nth estimates (task_at order p) 0))
 
   -- the first task from the top whose answer is late or above its estimate, with that answer; or none
   abbrev pub FirstMiss : List ℕ → List ℕ → Option Miss → Type 0
   FirstMiss order estimates miss =
       MatchOption miss ((p : ℕ) → p < length order → MeetsAt order estimates p)
-      (λ x. (p : ℕ) × (p < length order) × (task_at order p ≡ x.task) × (answer_with order estimates p ≡ x.bound) × (MeetsAt order estimates p → ⊥) × ((q : ℕ) → q < p → MeetsAt order estimates q))
+      (λ x. (p : ℕ) × (p < length order) × (task_at order p ≡ x.task) × (answer_with order (padded estimates) p ≡ x.bound) × (MeetsAt order estimates p → ⊥) × ((q : ℕ) → q < p → MeetsAt order estimates q))
 
   -- an order passes lows and highs, by row: each task's answer, with the lows as estimates, is at most its high
   abbrev pub PassesBy : List ℕ → List ℕ → List ℕ → Type 0
-  PassesBy lows highs order = (p : ℕ) → p < length order → NoMore (answer t rows (task_at order p) (first order p) lows) (Some (nth highs (task_at order p) 0))
+  PassesBy lows highs order = (p : ℕ) → p < length order → NoMore (answer_with order lows p) (Some (nth highs (task_at order p) 0))
 
   -- check: the first task of the order that misses its estimate; there is none exactly when the order passes the estimates as lows and highs
   abbrev pub Checks : List ℕ → List ℕ → Result (Option Miss) Fault → Type 0

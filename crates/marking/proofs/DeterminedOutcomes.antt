@@ -36,7 +36,7 @@ module _ {T : Type 0} (answer : T → List Row → ℕ → List Bool → List �
       | inl less ↦ absurd (misses' (above q less))
       | inr not_more ↦
           let same : p ≡ q = omega arith in
-          ap Some (same_miss a b (sym task ∙ ap (λ k. get_or order k 0) same ∙ task') (sym bound ∙ ap (λ k. answer_with answer t rows order estimates k) same ∙ bound'))
+          ap Some (same_miss a b (sym task ∙ ap (λ k. get_or order k 0) same ∙ task') (sym bound ∙ ap (λ k. answer_with answer t rows order (padded estimates) k) same ∙ bound'))
     ]
   ]
 

@@ -1,19 +1,15 @@
 -- What begin does.
-use Rattle.std.specs.Prelude.{◌≡◌, ℕ, ◌≤◌, List, map, length, Ok, Err, Result}
+use Rattle.std.specs.Prelude.{◌≡◌, ℕ, ◌≤◌, List, map, length, Ok, Result}
 use Rattle.table.specs.declared.row.Row.{Row}
 use Rattle.table.specs.declared.fault.Fault.{Fault}
 use Rattle.table.specs.declared.fault.Fault.TheVariants.{Empty, BadSlots}
-use Rattle.table.specs.Asking.{Asks}
+use Rattle.table.specs.Asking.{Asks, Refuses}
 use Rattle.bounds.specs.Orders.{padded, wcets}
 use Rattle.orders.specs.declared.range.Range.{Range}
 use Rattle.study.specs.declared.room.Room.{Room}
 use Rattle.study.specs.declared.state.State.TheVariants as state
 use Rattle.study.specs.Slots.{HasSlots, put_slot}
 use Rattle.study.specs.Moments.{Moment, rows_of}
-
--- a call is refused with this fault, and nothing is altered
-abbrev pub Refuses : Fault → Moment → Result (Unit {0}) Fault → Moment → Type 0
-Refuses fault before r after = (r ≡ Err fault) × (after ≡ before)
 
 -- the D of each row
 abbrev pub deadlines : List Row → List ℕ

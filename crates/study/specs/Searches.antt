@@ -3,11 +3,11 @@ use Rattle.std.specs.Prelude.{◌≡◌, ℕ, ◌+◌, ◌/◌, ◌≤◌, Bool,
 use Rattle.table.specs.declared.row.Row.{Row}
 use Rattle.table.specs.declared.fault.Fault.{Fault}
 use Rattle.table.specs.declared.fault.Fault.TheVariants.{Empty, BadSlots}
-use Rattle.table.specs.Asking.{Asks}
+use Rattle.table.specs.Asking.{Asks, Refuses}
 use Rattle.study.specs.declared.room.Room.{Room}
 use Rattle.study.specs.Counts.{verdicts}
 use Rattle.study.specs.Moments.{Moment, rows_of}
-use Rattle.study.specs.Begins.{Refuses, HasRoom, Begins}
+use Rattle.study.specs.Begins.{HasRoom, Begins}
 use Rattle.study.specs.Steps.{Steps}
 use Rattle.study.specs.Histories.{Since, other, Promise}
 

@@ -4,7 +4,7 @@ use Rattle.table.specs.declared.row.Row.{Row}
 use Rattle.table.specs.declared.fault.Fault.{Fault}
 use Rattle.table.specs.declared.fault.Fault.TheVariants.{NotRunning, OtherLists}
 use Rattle.table.specs.Places.{nth}
-use Rattle.table.specs.Asking.{Asks}
+use Rattle.table.specs.Asking.{Asks, Refuses}
 use Rattle.orders.specs.declared.range.Range.{Range}
 use Rattle.orders.specs.Ranges.{Within, Open, Closed}
 use Rattle.study.specs.declared.finding.Finding.{Finding}
@@ -14,7 +14,6 @@ use Rattle.study.specs.declared.state.State.TheVariants as state
 use Rattle.study.specs.Slots.{slot, put_slot}
 use Rattle.study.specs.Pieces.{pieces, put_slots}
 use Rattle.study.specs.Moments.{Moment, rows_of}
-use Rattle.study.specs.Begins.{Refuses}
 use Rattle.study.specs.Turns.{lows_of, GrowsTo, Finds}
 
 -- a search is running, on lists with this room

@@ -8,7 +8,7 @@ use Rattle.table.specs.declared.row.Row.{Row}
 use Rattle.table.specs.declared.rows.Table.{Table as Rows}
 use Rattle.table.specs.declared.fault.Fault.{Fault}
 use Rattle.table.specs.declared.fault.Fault.TheVariants.{Full, NoRow, BadRow}
-use Rattle.table.specs.Asking.{Asks}
+use Rattle.table.specs.Asking.{Asks, Refuses}
 use Rattle.table.specs.Faults.{nowhere}
 use Rattle.table.specs.Places.{nth, put}
 
@@ -54,10 +54,6 @@ with_row t place w = record { rows = slice_set t.rows place w; len = t.len; ok =
 abbrev pub Names : List Row → ℕ → Type 0
 Names rows k = (1 ≤ k) × (k ≤ length rows)
 
--- a call is refused with this fault, and the table is as it was
-abbrev pub Refuses : {A : Type 0} → Rows Row → Fault → Result A Fault → Rows Row → Type 0
-Refuses t e r t' = (r ≡ Err e) × (t' ≡ t)
-
 -- a call is accepted: with the row of these numbers, the table's rows are then what is said
 abbrev pub Accepts : ℕ → ℕ → ℕ → Result (Unit {0}) Fault → Rows Row → (Row → List Row) → Type 0
 Accepts wcet period deadline r t' rows = (row : Row) × Of row wcet period deadline × ((r ≡ Ok tt) × (view t' ≡ rows row))
@@ -65,21 +61,21 @@ Accepts wcet period deadline r t' rows = (row : Row) × Of row wcet period deadl
 -- add: the row of these numbers stands after the last one
 abbrev pub Adds : Rows Row → ℕ → ℕ → ℕ → Result (Unit {0}) Fault → Rows Row → Type 0
 Adds t wcet period deadline r t' =
-    Asks (length (view t) < 32) (Refuses t Full r t')
-    (Asks (IsRow wcet period deadline) (Refuses t (BadRow nowhere) r t')
+    Asks (length (view t) < 32) (Refuses Full t r t')
+    (Asks (IsRow wcet period deadline) (Refuses (BadRow nowhere) t r t')
     (Accepts wcet period deadline r t' (λ row. view t ++ row ∷ [])))
 
 -- alter: row k is of these numbers, and every other row is as it stood
 abbrev pub Alters : Rows Row → ℕ → ℕ → ℕ → ℕ → Result (Unit {0}) Fault → Rows Row → Type 0
 Alters t k wcet period deadline r t' =
-    Asks (Names (view t) k) (Refuses t NoRow r t')
-    (Asks (IsRow wcet period deadline) (Refuses t (BadRow nowhere) r t')
+    Asks (Names (view t) k) (Refuses NoRow t r t')
+    (Asks (IsRow wcet period deadline) (Refuses (BadRow nowhere) t r t')
     (Accepts wcet period deadline r t' (λ row. put (view t) k row)))
 
 -- remove: row k is taken out, and later rows move up by one
 abbrev pub Removes : Rows Row → ℕ → Result (Unit {0}) Fault → Rows Row → Type 0
 Removes t k r t' =
-    Asks (Names (view t) k) (Refuses t NoRow r t') ((r ≡ Ok tt) × (view t' ≡ remove (view t) (k - 1)))
+    Asks (Names (view t) k) (Refuses NoRow t r t') ((r ≡ Ok tt) × (view t' ≡ remove (view t) (k - 1)))
 
 -- reading row k gives it, or a refusal where there is none
 abbrev pub Reads : Rows Row → ℕ → Result Row Fault → Type 0

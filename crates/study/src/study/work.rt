@@ -1,10 +1,9 @@
 // The work of one step.
 ghost use Rattle.std.specs.Prelude.{◌≡◌, ℕ, ◌+◌, ◌-◌, ◌*◌, ◌<◌, ◌≤◌, ◌⊎◌, List, length, Ok, IfOk, IfErr, MatchOption};
 ghost use Rattle.table.specs.declared.fault.Fault.TheVariants.{OtherLists};
-ghost use Rattle.table.specs.Asking.{Asks};
+ghost use Rattle.table.specs.Asking.{Asks, Refuses};
 ghost use Rattle.table.specs.Rows.{view};
 ghost use Rattle.study.specs.declared.state.State.TheVariants as state;
-ghost use Rattle.study.specs.Begins.{Refuses};
 ghost use Rattle.study.specs.Moments.{moment};
 ghost use Rattle.study.specs.Pieces.{pieces, put_slots};
 ghost use Rattle.study.specs.Steps.{AsLeft, Ends, Leaves, Runs, Stepped, recorded, taken_of};
