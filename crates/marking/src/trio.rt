@@ -23,7 +23,10 @@ impl<'a> Trio<'a> {
         tasks: &'a [u8],
         answer: &'a [u8],
     ) -> Result<Trio<'a>, Fault>
-        ensures { MatchResult result (λ s. (ReadsText Board board.now (Ok s.board) × ReadsText Tasks tasks.now (Ok s.tasks) × ReadsText Answer answer.now (Ok s.answer)) × (IsFull s.board × IsFull s.tasks × IsFull s.answer)) (λ fault. TextsMiss board.now tasks.now answer.now fault) }
+        ensures { MatchResult result
+            (λ s. (ReadsText Board board.now (Ok s.board) × ReadsText Tasks tasks.now (Ok s.tasks) × ReadsText Answer answer.now (Ok s.answer))
+            × (IsFull s.board × IsFull s.tasks × IsFull s.answer))
+            (λ fault. TextsMiss board.now tasks.now answer.now fault) }
     {
         Ok(Trio {
             board: Sheet::read(Form::Board, board)?,

@@ -16,24 +16,206 @@ mod tests {
 
     const ANSWER: &str = "task estimate\na 2\nb 3\nc 5\n";
 
+    const UNKNOWN_TEST: &str = "processors overhead test\n2 0 x\n";
+
+    const REPEATED_TASK: &str = "task wcet period deadline\na 0 5 5\na 2 5 5\n";
+
+    const BAD_ROW: &str = "task wcet period deadline\na 0 5 5\nb 2 5 5\n";
+
+    // Three texts that are refused, the fault's number, and its sheet, line and field.
+    struct Refusal<'a> {
+        sheets: [&'a str; 3],
+        number: u32,
+        place: (u32, u32, u32),
+    }
+
+    // What is no sheet.
+    const FAULTY_TEXTS: [Refusal<'static>; 7] = [
+        Refusal {
+            sheets: ["", TASKS, ANSWER],
+            number: 1,
+            place: (1, 0, 0),
+        },
+        Refusal {
+            sheets: [BOARD, "task wcet period deadline\na 2 5 5", ANSWER],
+            number: 1,
+            place: (2, 0, 0),
+        },
+        Refusal {
+            sheets: [BOARD, "task wcet period\na 2 5\n", ANSWER],
+            number: 2,
+            place: (2, 1, 0),
+        },
+        Refusal {
+            sheets: [BOARD, TASKS, "task estimate\na 2\nb 3 4\nc 5\n"],
+            number: 3,
+            place: (3, 3, 0),
+        },
+        Refusal {
+            sheets: [
+                BOARD,
+                "task wcet period deadline\na 2 5 5\nb 2 007 5\n",
+                ANSWER,
+            ],
+            number: 4,
+            place: (2, 3, 3),
+        },
+        Refusal {
+            sheets: [
+                "processors overhead test\n2 0 rta\n2 0 rta\n",
+                TASKS,
+                ANSWER,
+            ],
+            number: 5,
+            place: (1, 3, 0),
+        },
+        Refusal {
+            sheets: [BOARD, TASKS, "task estimate\n"],
+            number: 5,
+            place: (3, 1, 0),
+        },
+    ];
+
+    // What is no test; the left one of two fields at fault is named.
+    const FAULTY_BOARDS: [Refusal<'static>; 6] = [
+        Refusal {
+            sheets: ["processors overhead test\n0 0 rta\n", TASKS, ANSWER],
+            number: 12,
+            place: (1, 2, 1),
+        },
+        Refusal {
+            sheets: ["processors overhead test\n17 0 rta\n", TASKS, ANSWER],
+            number: 12,
+            place: (1, 2, 1),
+        },
+        Refusal {
+            sheets: ["processors overhead test\n2 0 rt\n", TASKS, ANSWER],
+            number: 12,
+            place: (1, 2, 3),
+        },
+        Refusal {
+            sheets: ["processors overhead test\n0 0 rt\n", TASKS, ANSWER],
+            number: 12,
+            place: (1, 2, 1),
+        },
+        Refusal {
+            sheets: ["overhead test processors\n0 rt 0\n", TASKS, ANSWER],
+            number: 12,
+            place: (1, 2, 2),
+        },
+        Refusal {
+            sheets: ["overhead test processors\n0 da 0\n", TASKS, ANSWER],
+            number: 12,
+            place: (1, 2, 3),
+        },
+    ];
+
+    // Tasks and answers that do not go together.
+    const FAULTY_PAIRS: [Refusal<'static>; 4] = [
+        Refusal {
+            sheets: [
+                BOARD,
+                "task wcet period deadline\na 2 5 5\na 2 5 5\n",
+                ANSWER,
+            ],
+            number: 6,
+            place: (2, 3, 1),
+        },
+        Refusal {
+            sheets: [BOARD, TASKS, "estimate task\n2 a\n3 x\n5 c\n"],
+            number: 7,
+            place: (3, 3, 2),
+        },
+        Refusal {
+            sheets: [BOARD, TASKS, "task estimate\na 2\nb 3\nb 3\n"],
+            number: 7,
+            place: (3, 4, 1),
+        },
+        Refusal {
+            sheets: [BOARD, TASKS, "task estimate\na 2\nc 5\n"],
+            number: 8,
+            place: (2, 3, 0),
+        },
+    ];
+
+    // What is no row, and what is no estimate of its row.
+    const FAULTY_VALUES: [Refusal<'static>; 3] = [
+        Refusal {
+            sheets: [
+                BOARD,
+                "task wcet period deadline\na 2 5 5\nb 3 5 2\nc 0 6 6\n",
+                ANSWER,
+            ],
+            number: 11,
+            place: (2, 3, 0),
+        },
+        Refusal {
+            sheets: [BOARD, TASKS, "task estimate\nc 6\na 1\nb 6\n"],
+            number: 17,
+            place: (3, 3, 2),
+        },
+        Refusal {
+            sheets: [BOARD, TASKS, "estimate task\n7 c\n2 a\n2 b\n"],
+            number: 17,
+            place: (3, 2, 1),
+        },
+    ];
+
+    // Of two faults the first: one of a board comes before one of the tasks, this before one of the answer, a text's before the test's,
+    // the test's before the pair's, this before a row's, and this before an estimate's.
+    const TWO_FAULTS: [Refusal<'static>; 7] = [
+        Refusal {
+            sheets: ["processors overhead test\n", "", ""],
+            number: 5,
+            place: (1, 1, 0),
+        },
+        Refusal {
+            sheets: [BOARD, "task wcet period deadline\n", ""],
+            number: 5,
+            place: (2, 1, 0),
+        },
+        Refusal {
+            sheets: [UNKNOWN_TEST, TASKS, "task estimate\n"],
+            number: 5,
+            place: (3, 1, 0),
+        },
+        Refusal {
+            sheets: [UNKNOWN_TEST, REPEATED_TASK, ANSWER],
+            number: 12,
+            place: (1, 2, 3),
+        },
+        Refusal {
+            sheets: [BOARD, REPEATED_TASK, ANSWER],
+            number: 6,
+            place: (2, 3, 1),
+        },
+        Refusal {
+            sheets: [BOARD, BAD_ROW, "task estimate\nb 9\n"],
+            number: 8,
+            place: (2, 2, 0),
+        },
+        Refusal {
+            sheets: [BOARD, BAD_ROW, "task estimate\nb 9\na 9\n"],
+            number: 11,
+            place: (2, 2, 0),
+        },
+    ];
+
     fn marked<'a>(board: &'a str, tasks: &'a str, answer: &'a str) -> Result<Report<'a>, Fault> {
         mark(board.as_bytes(), tasks.as_bytes(), answer.as_bytes())
     }
 
-    // The fault has this number, and these are its sheet, line and field.
-    fn faulty(
-        rt: &impl Abort,
-        texts: [&str; 3],
-        number: u32,
-        place: (u32, u32, u32),
-    ) -> Result<(), Fail> {
-        let [board, tasks, answer] = texts;
-        let fault = marked(board, tasks, answer)
-            .err()
-            .ok_or_else(|| Fail::new("there is a report"))?;
-        let (sheet, line, field) = place;
-        assert_eq!(rt; fault.number(), number);
-        assert_eq!(rt; fault.place(), Place { sheet, line, field });
+    // Each of these is refused as it is said.
+    fn are_refused(rt: &impl Abort, refusals: &[Refusal<'_>]) -> Result<(), Fail> {
+        for (i, refusal) in refusals.iter().enumerate() {
+            let [board, tasks, answer] = refusal.sheets;
+            let fault = marked(board, tasks, answer)
+                .err()
+                .ok_or_else(|| Fail::new("there is a report"))?;
+            let (sheet, line, field) = refusal.place;
+            assert_eq!(rt; fault.number(), refusal.number, "[{i}]");
+            assert_eq!(rt; fault.place(), Place { sheet, line, field }, "[{i}]");
+        }
         Ok(())
     }
 
@@ -150,165 +332,26 @@ mod tests {
 
     #[test]
     fn refuses_texts(rt: HostRuntime) -> Result<(), Fail> {
-        faulty(&rt, ["", TASKS, ANSWER], 1, (1, 0, 0))?;
-        faulty(
-            &rt,
-            [BOARD, "task wcet period deadline\na 2 5 5", ANSWER],
-            1,
-            (2, 0, 0),
-        )?;
-        faulty(
-            &rt,
-            [BOARD, "task wcet period\na 2 5\n", ANSWER],
-            2,
-            (2, 1, 0),
-        )?;
-        faulty(
-            &rt,
-            [BOARD, TASKS, "task estimate\na 2\nb 3 4\nc 5\n"],
-            3,
-            (3, 3, 0),
-        )?;
-        faulty(
-            &rt,
-            [
-                BOARD,
-                "task wcet period deadline\na 2 5 5\nb 2 007 5\n",
-                ANSWER,
-            ],
-            4,
-            (2, 3, 3),
-        )?;
-        faulty(
-            &rt,
-            [
-                "processors overhead test\n2 0 rta\n2 0 rta\n",
-                TASKS,
-                ANSWER,
-            ],
-            5,
-            (1, 3, 0),
-        )?;
-        faulty(&rt, [BOARD, TASKS, "task estimate\n"], 5, (3, 1, 0))
+        are_refused(&rt, &FAULTY_TEXTS)
     }
 
     #[test]
     fn refuses_boards(rt: HostRuntime) -> Result<(), Fail> {
-        faulty(
-            &rt,
-            ["processors overhead test\n0 0 rta\n", TASKS, ANSWER],
-            12,
-            (1, 2, 1),
-        )?;
-        faulty(
-            &rt,
-            ["processors overhead test\n17 0 rta\n", TASKS, ANSWER],
-            12,
-            (1, 2, 1),
-        )?;
-        faulty(
-            &rt,
-            ["processors overhead test\n2 0 rt\n", TASKS, ANSWER],
-            12,
-            (1, 2, 3),
-        )?;
-        faulty(
-            &rt,
-            ["processors overhead test\n0 0 rt\n", TASKS, ANSWER],
-            12,
-            (1, 2, 1),
-        )?;
-        faulty(
-            &rt,
-            ["overhead test processors\n0 rt 0\n", TASKS, ANSWER],
-            12,
-            (1, 2, 2),
-        )?;
-        faulty(
-            &rt,
-            ["overhead test processors\n0 da 0\n", TASKS, ANSWER],
-            12,
-            (1, 2, 3),
-        )
+        are_refused(&rt, &FAULTY_BOARDS)
     }
 
     #[test]
-    fn refuses_pairs_and_values(rt: HostRuntime) -> Result<(), Fail> {
-        faulty(
-            &rt,
-            [
-                BOARD,
-                "task wcet period deadline\na 2 5 5\na 2 5 5\n",
-                ANSWER,
-            ],
-            6,
-            (2, 3, 1),
-        )?;
-        faulty(
-            &rt,
-            [BOARD, TASKS, "estimate task\n2 a\n3 x\n5 c\n"],
-            7,
-            (3, 3, 2),
-        )?;
-        faulty(
-            &rt,
-            [BOARD, TASKS, "task estimate\na 2\nb 3\nb 3\n"],
-            7,
-            (3, 4, 1),
-        )?;
-        faulty(
-            &rt,
-            [BOARD, TASKS, "task estimate\na 2\nc 5\n"],
-            8,
-            (2, 3, 0),
-        )?;
-        faulty(
-            &rt,
-            [
-                BOARD,
-                "task wcet period deadline\na 2 5 5\nb 3 5 2\nc 0 6 6\n",
-                ANSWER,
-            ],
-            11,
-            (2, 3, 0),
-        )?;
-        faulty(
-            &rt,
-            [BOARD, TASKS, "task estimate\nc 6\na 1\nb 6\n"],
-            17,
-            (3, 3, 2),
-        )?;
-        faulty(
-            &rt,
-            [BOARD, TASKS, "estimate task\n7 c\n2 a\n2 b\n"],
-            17,
-            (3, 2, 1),
-        )
+    fn refuses_pairs(rt: HostRuntime) -> Result<(), Fail> {
+        are_refused(&rt, &FAULTY_PAIRS)
+    }
+
+    #[test]
+    fn refuses_values(rt: HostRuntime) -> Result<(), Fail> {
+        are_refused(&rt, &FAULTY_VALUES)
     }
 
     #[test]
     fn asks_in_order(rt: HostRuntime) -> Result<(), Fail> {
-        // The board's fifth question comes before the first of the tasks, and the fifth of these before the first of the answer.
-        faulty(&rt, ["processors overhead test\n", "", ""], 5, (1, 1, 0))?;
-        faulty(
-            &rt,
-            [BOARD, "task wcet period deadline\n", ""],
-            5,
-            (2, 1, 0),
-        )?;
-        // A text is asked before the test, the test before the pair, the pair before the rows, these before the estimates.
-        let unknown = "processors overhead test\n2 0 x\n";
-        faulty(&rt, [unknown, TASKS, "task estimate\n"], 5, (3, 1, 0))?;
-        let twice = "task wcet period deadline\na 0 5 5\na 2 5 5\n";
-        faulty(&rt, [unknown, twice, ANSWER], 12, (1, 2, 3))?;
-        faulty(&rt, [BOARD, twice, ANSWER], 6, (2, 3, 1))?;
-        let bad = "task wcet period deadline\na 0 5 5\nb 2 5 5\n";
-        faulty(&rt, [BOARD, bad, "task estimate\nb 9\n"], 8, (2, 2, 0))?;
-        faulty(
-            &rt,
-            [BOARD, bad, "task estimate\nb 9\na 9\n"],
-            11,
-            (2, 2, 0),
-        )
+        are_refused(&rt, &TWO_FAULTS)
     }
 }

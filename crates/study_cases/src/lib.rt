@@ -884,44 +884,46 @@ mod tests {
         Ok(())
     }
 
+    // The calls that make the worked table, on the way a row that is removed, and search it.
+    const CALLS: [Call; 9] = [
+        Call::Edit(Edit::Add {
+            wcet: 2,
+            period: 5,
+            deadline: 5,
+        }),
+        Call::Edit(Edit::Add {
+            wcet: 1,
+            period: 4,
+            deadline: 4,
+        }),
+        Call::Edit(Edit::Add {
+            wcet: 3,
+            period: 6,
+            deadline: 6,
+        }),
+        Call::Edit(Edit::Add {
+            wcet: 9,
+            period: 9,
+            deadline: 9,
+        }),
+        Call::Edit(Edit::Alter {
+            k: 2,
+            wcet: 2,
+            period: 5,
+            deadline: 5,
+        }),
+        Call::Edit(Edit::Remove { k: 4 }),
+        Call::Begin,
+        Call::Step,
+        Call::Step,
+    ];
+
     // The calls as data do what the methods do.
     #[test]
     fn takes_calls(rt: HostRuntime) -> Result<(), Fail> {
         let test = rta(2)?;
         let mut lent = lend(&[])?;
-        let calls = [
-            Call::Edit(Edit::Add {
-                wcet: 2,
-                period: 5,
-                deadline: 5,
-            }),
-            Call::Edit(Edit::Add {
-                wcet: 1,
-                period: 4,
-                deadline: 4,
-            }),
-            Call::Edit(Edit::Add {
-                wcet: 3,
-                period: 6,
-                deadline: 6,
-            }),
-            Call::Edit(Edit::Add {
-                wcet: 9,
-                period: 9,
-                deadline: 9,
-            }),
-            Call::Edit(Edit::Alter {
-                k: 2,
-                wcet: 2,
-                period: 5,
-                deadline: 5,
-            }),
-            Call::Edit(Edit::Remove { k: 4 }),
-            Call::Begin,
-            Call::Step,
-            Call::Step,
-        ];
-        for call in calls {
+        for call in CALLS {
             lent.study
                 .call(call, &test, &mut lent.ledger, &mut lent.pending)?;
         }
