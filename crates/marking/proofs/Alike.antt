@@ -13,7 +13,7 @@ use Rattle.sheets.specs.declared.form.Form.{Form}
 use Rattle.sheets.specs.declared.sheet.Sheet.{Sheet}
 use Rattle.sheets.specs.Fields.{value}
 use Rattle.sheets.specs.Forms.{name_of, place}
-use Rattle.sheets.specs.Sheets.{order_of, values_of, left_of, field_of, ReadsText}
+use Rattle.sheets.specs.Sheets.{columns_in, values_of, left_of, field_of, ReadsText}
 use Rattle.sheets.specs.Pairs.{count_of, task_of, IsNew, HasTaskAt, HasTask, Answers, IsAnswered, EachLine, FirstLine, PairMisses}
 use Rattle.sheets.proofs.Columns.{one_order}
 use Rattle.sheets.proofs.Cuts.{one_text}
@@ -22,7 +22,7 @@ use Rattle.marking.specs.Questions.{number_of, IsTestName, Suits, HasTest, TestM
 -- Two sheets have one form, one order of columns and the same values.
 pub record Alike (s t : Sheet) : Type 0 where
   pub form : s.form ≡ t.form
-  pub order : order_of s ≡ order_of t
+  pub order : columns_in s ≡ columns_in t
   pub values : values_of s ≡ values_of t
 
 pub back : (s t : Sheet) → Alike s t → Alike t s

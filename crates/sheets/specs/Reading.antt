@@ -17,14 +17,14 @@ abbrev pub IsSized : List ℕ → Type 0
 IsSized text = (1 ≤ length text) × (length text ≤ 4096) × (nth text (length text) 0 ≡ 10)
 
 -- Line 1 has the names of these columns, from left to right: they are as many as the form's, and each of the form's is among them, so each once.
-pub record Heads (form : Form) (names : List (List ℕ)) (order : List Column) : Type 0 where
-  pub named : names ≡ map name_of order
-  pub size : length order ≡ length (columns_of form)
-  pub each : All (Contains order) (columns_of form)
+pub record Heads (form : Form) (names : List (List ℕ)) (columns : List Column) : Type 0 where
+  pub named : names ≡ map name_of columns
+  pub size : length columns ≡ length (columns_of form)
+  pub each : All (Contains columns) (columns_of form)
 
 -- question 2: line 1 has the names of the form's columns, each once, in some order
 abbrev pub HasNames : Form → List (List ℕ) → Type 0
-HasNames form names = (order : List Column) × Heads form names order
+HasNames form names = (columns : List Column) × Heads form names columns
 
 -- a field has the form of its kind
 abbrev pub IsOfKind : Kind → List ℕ → Type 0
@@ -84,10 +84,10 @@ abbrev pub IsFirst : Form → List ℕ → Fault → Type 0
 IsFirst form text fault = Missed form text fault × ((other : Fault) → Before other fault → Missed form text other → ⊥)
 
 -- A text is a sheet of a form, of these lines and with its columns in this order: no question is missed.
-pub record IsSheet (form : Form) (text : List ℕ) (lines : List (List (List ℕ))) (order : List Column) : Type 0 where
+pub record IsSheet (form : Form) (text : List ℕ) (lines : List (List (List ℕ))) (columns : List Column) : Type 0 where
   pub sized : IsSized text
   pub cut : IsText text lines
-  pub heads : Heads form (nth lines 1 []) order
+  pub heads : Heads form (nth lines 1 []) columns
   pub counts : (k : ℕ) → IsValueLine lines k → SameCount lines k
   pub kinds : (k j : ℕ) → IsValueLine lines k → 1 ≤ j → j ≤ length (nth lines k []) → Conforms lines k j
   pub allowed : Allowed form (length lines - 1)

@@ -11,7 +11,7 @@ use crate::form::{Column, Form, ROOM};
 pub struct Sheet<'a> {
     form: Form,
     // From left to right; past the last column a filler.
-    order: [Column; ROOM],
+    columns: [Column; ROOM],
     lines: [&'a [u8]; 32],
     len: usize,
     ghost few: { len ≤ 32 },
