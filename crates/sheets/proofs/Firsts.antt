@@ -14,7 +14,7 @@ use Rattle.sheets.specs.declared.form.Column.TheVariants.{Processors, Overhead, 
 use Rattle.sheets.specs.declared.form.Form.{Form}
 use Rattle.sheets.specs.Forms.{name_of, kind_of, most_of, place}
 use Rattle.sheets.specs.Texts.{IsText, parts}
-use Rattle.sheets.specs.Reading.{IsSized, Heads, HasNames, IsOfKind, Allowed, IsValueLine, field, SameCount, Conforms, line_at_fault, MissedIn, Missed, is_late, IsFirst, IsSheet}
+use Rattle.sheets.specs.Reading.{IsSized, Heads, HasNames, IsOfKind, AllowedCount, IsValueLine, field, SameCount, Conforms, line_at_fault, MissedIn, Missed, is_late, IsFirst, IsSheet}
 use Rattle.sheets.specs.Lines.{FitsAt, Misses, FirstFit, LinesMiss}
 use Rattle.sheets.proofs.Parts.{get_or-map}
 use Rattle.sheets.proofs.Columns.{one_column}
@@ -191,7 +191,7 @@ module _ (form : Form) (text : List ℕ) (first : List ℕ) (ls : List (List ℕ
     lines_first fault (inr m) =
         let at : place form (cond (length ls == 0) 1 (most_of form + 2)) 0 ≡ place form (line_at_fault form all) 0 = ap (λ b. place form (cond b 1 (most_of form + 2)) 0) (same_test (length ls) (length all) (omega (arith, length-map ls (parts 32)))) in
         subst (IsFirst form text) (sym m.2) (
-          (all, is_text, (at, λ few. m.1 (subst (Allowed form) (let e : length all - 1 ≡ length ls = omega (arith, length-map ls (parts 32)) in e) few))),
+          (all, is_text, (at, λ few. m.1 (subst (AllowedCount form) (let e : length all - 1 ≡ length ls = omega (arith, length-map ls (parts 32)) in e) few))),
           λ other b missed. elim b [
             | inl early ↦ no_miss form first ls columns heads other (omega arith)
                 (λ k w line_is field_is. count_before (length ls) m.0 k (omega (arith, w.1, length-map ls (parts 32))) w)
@@ -207,14 +207,14 @@ module _ (form : Form) (text : List ℕ) (first : List ℕ) (ls : List (List ℕ
         )
 
     -- no question is missed
-    pub sheet_from : FirstFit columns ls (length ls) → Allowed form (length ls) → IsSheet form text all columns
+    pub sheet_from : FirstFit columns ls (length ls) → AllowedCount form (length ls) → IsSheet form text all columns
     sheet_from fit few = record {
       sized = sized;
       cut = is_text;
       heads = subst (λ l. Heads form l columns) (sym (first_at form first ls)) heads;
       counts = λ k v. count_before (length ls) fit k (omega (arith, v.1, length-map ls (parts 32))) v;
       kinds = λ k j v one more. kind_before (length ls) fit k j (omega (arith, v.1, length-map ls (parts 32))) v one more;
-      allowed = subst (Allowed form) (let e : length ls ≡ length all - 1 = omega (arith, length-map ls (parts 32)) in e) few;
+      allowed = subst (AllowedCount form) (let e : length ls ≡ length all - 1 = omega (arith, length-map ls (parts 32)) in e) few;
     }
 
 -- a text that is a sheet misses no question

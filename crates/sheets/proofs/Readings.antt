@@ -8,7 +8,7 @@ use Rattle.sheets.specs.declared.form.Form.{Form}
 use Rattle.sheets.specs.declared.sheet.Sheet.{Sheet}
 use Rattle.sheets.specs.Forms.{columns_of, place}
 use Rattle.sheets.specs.Texts.{IsText, parts}
-use Rattle.sheets.specs.Reading.{IsSized, Heads, HasNames, Allowed, IsFirst, IsSheet}
+use Rattle.sheets.specs.Reading.{IsSized, Heads, HasNames, AllowedCount, IsFirst, IsSheet}
 use Rattle.sheets.specs.Lines.{FirstFit, LinesMiss}
 use Rattle.sheets.specs.Sheets.{lines_of, ReadsText}
 use Rattle.sheets.proofs.Cuts.{ended, some_part, cut_is_text}
@@ -26,7 +26,7 @@ module _ (form : Form) (text : List ℕ) (body : List ℕ) (sized : IsSized text
     go (first ∷ ls) e some = names_first form text first ls sized (is_text first ls e) (bad first ls e)
 
   -- the value lines are read
-  pub values_read : (first : List ℕ) (ls : List (List ℕ)) → parts 10 body ≡ first ∷ ls → (columns : List Column) → Heads form (parts 32 first) (take (length (columns_of form)) columns) → (r : Result Sheet Fault) → MatchResult r (λ s. (s.form ≡ form) × (s.columns ≡ columns) × (lines_of s ≡ ls) × FirstFit (take (length (columns_of form)) columns) ls (length ls) × Allowed form (length ls)) (λ fault. LinesMiss form (take (length (columns_of form)) columns) ls fault) → ReadsText form text r
+  pub values_read : (first : List ℕ) (ls : List (List ℕ)) → parts 10 body ≡ first ∷ ls → (columns : List Column) → Heads form (parts 32 first) (take (length (columns_of form)) columns) → (r : Result Sheet Fault) → MatchResult r (λ s. (s.form ≡ form) × (s.columns ≡ columns) × (lines_of s ≡ ls) × FirstFit (take (length (columns_of form)) columns) ls (length ls) × AllowedCount form (length ls)) (λ fault. LinesMiss form (take (length (columns_of form)) columns) ls fault) → ReadsText form text r
   values_read first ls e columns heads (Ok s) h = (
     seen form first ls,
     take (length (columns_of form)) columns,

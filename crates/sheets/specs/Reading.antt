@@ -32,8 +32,8 @@ IsOfKind Name field = IsName field
 IsOfKind Number field = (n : ℕ) × Writes field n
 
 -- question 5: a sheet of a form may have so many value lines
-abbrev pub Allowed : Form → ℕ → Type 0
-Allowed form n = (1 ≤ n) × (n ≤ most_of form)
+abbrev pub AllowedCount : Form → ℕ → Type 0
+AllowedCount form n = (1 ≤ n) × (n ≤ most_of form)
 
 -- line k is a value line: any but line 1 is
 abbrev pub IsValueLine : List (List (List ℕ)) → ℕ → Type 0
@@ -60,7 +60,7 @@ abbrev pub MissedIn : Form → List (List (List ℕ)) → Fault → Type 0
 MissedIn form lines (BadNames p) = (p ≡ place form 1 0) × (HasNames form (nth lines 1 []) → ⊥)
 MissedIn form lines (BadFieldCount p) = (k : ℕ) × (p ≡ place form k 0) × IsValueLine lines k × (SameCount lines k → ⊥)
 MissedIn form lines (BadField p) = (k j : ℕ) × (p ≡ place form k j) × IsValueLine lines k × (1 ≤ j) × (j ≤ length (nth lines k [])) × (Conforms lines k j → ⊥)
-MissedIn form lines (BadLineCount p) = (p ≡ place form (line_at_fault form lines) 0) × (Allowed form (length lines - 1) → ⊥)
+MissedIn form lines (BadLineCount p) = (p ≡ place form (line_at_fault form lines) 0) × (AllowedCount form (length lines - 1) → ⊥)
 MissedIn form lines fault = ⊥
 
 -- the fault's question, one of 1 to 5, is missed at the fault's place
@@ -90,4 +90,4 @@ pub record IsSheet (form : Form) (text : List ℕ) (lines : List (List (List ℕ
   pub heads : Heads form (nth lines 1 []) columns
   pub counts : (k : ℕ) → IsValueLine lines k → SameCount lines k
   pub kinds : (k j : ℕ) → IsValueLine lines k → 1 ≤ j → j ≤ length (nth lines k []) → Conforms lines k j
-  pub allowed : Allowed form (length lines - 1)
+  pub allowed : AllowedCount form (length lines - 1)

@@ -3,7 +3,7 @@ ghost use Rattle.std.specs.Prelude.{◌≡◌, ◌≤◌, ◌<◌, [], ◌∷◌
 ghost use Rattle.table.specs.declared.fault.Fault.{Fault};
 ghost use Rattle.sheets.specs.Forms.{columns_of};
 ghost use Rattle.sheets.specs.Readers.{left};
-ghost use Rattle.sheets.specs.Reading.{Allowed, IsSized, IsFirst, IsSheet};
+ghost use Rattle.sheets.specs.Reading.{AllowedCount, IsSized, IsFirst, IsSheet};
 ghost use Rattle.sheets.specs.Lines.{FirstFit, LinesMiss};
 ghost use Rattle.sheets.specs.Texts.{IsText};
 ghost use Rattle.sheets.specs.Sheets.{lines_of, IsFull, ReadsText};
@@ -25,7 +25,7 @@ fn read_values<'a>(
     mut lines: Reader<'a>,
 ) -> Result<Sheet<'a>, Fault>
     requires { lines.number ≡ 1 }
-    ensures { MatchResult result (λ s. (s.form ≡ form) × (s.columns ≡ given) × (lines_of s ≡ left lines.entry) × FirstFit (take (length (columns_of form)) given) (left lines.entry) (length (left lines.entry)) × Allowed form (length (left lines.entry))) (λ fault. LinesMiss form (take (length (columns_of form)) given) (left lines.entry) fault) }
+    ensures { MatchResult result (λ s. (s.form ≡ form) × (s.columns ≡ given) × (lines_of s ≡ left lines.entry) × FirstFit (take (length (columns_of form)) given) (left lines.entry) (length (left lines.entry)) × AllowedCount form (length (left lines.entry))) (λ fault. LinesMiss form (take (length (columns_of form)) given) (left lines.entry) fault) }
 {
     let columns = &given[..form.columns().len()];
     let mut kept: [&'a [u8]; 32] = [&[]; 32];
