@@ -14,7 +14,7 @@ pub struct Part<'a> {
 #[derive(Drop)]
 pub struct Reader<'a> {
     text: &'a [u8],
-    mark: u8,
+    separator: u8,
     at: usize,
     number: u32,
     ghost small: { length text.now ≤ 4096 },
