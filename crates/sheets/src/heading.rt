@@ -5,7 +5,7 @@ ghost use Rattle.sheets.specs.Readers.{left};
 ghost use Rattle.sheets.specs.Texts.{parts};
 ghost use Rattle.sheets.specs.Reading.{Heads, HasNames};
 
-use crate::form::{Column, Form, ROOM};
+use crate::form::{Column, Form, MOST_COLUMNS};
 use crate::reader::Reader;
 
 // Whether the column is in the list.
@@ -24,12 +24,12 @@ fn are_columns(form: Form, given: &[Column]) -> bool
 }
 
 /// The columns from left to right, if they are the form's, each once; what stands past them is a filler.
-pub(crate) fn columns_named(form: Form, names: &[u8]) -> Option<[Column; ROOM]>
+pub(crate) fn columns_named(form: Form, names: &[u8]) -> Option<[Column; MOST_COLUMNS]>
     requires { length names.now ≤ 4096 }
     ensures { MatchOption result (HasNames form (parts 32 names.now) → ⊥) (λ columns. Heads form (parts 32 names.now) (take (length (columns_of form)) columns)) }
 {
     let columns = form.columns();
-    let mut given = [Column::Task; ROOM];
+    let mut given = [Column::Task; MOST_COLUMNS];
     let mut count = 0;
     let mut fields = Reader::new(names, b' ');
     while let Some(field) = fields.next() {
@@ -44,7 +44,7 @@ pub(crate) fn columns_named(form: Form, names: &[u8]) -> Option<[Column; ROOM]>
 }
 
 /// The columns that the next line names, if they are the form's, each once.
-pub(crate) fn next_columns(form: Form, lines: &mut Reader<'_>) -> Option<[Column; ROOM]>
+pub(crate) fn next_columns(form: Form, lines: &mut Reader<'_>) -> Option<[Column; MOST_COLUMNS]>
     ensures columns { MatchOption result ((names : _) (rest : _) → left lines.old ≡ names ∷ rest → HasNames form (parts 32 names) → ⊥) (λ columns. (names : _) × (left lines.old ≡ names ∷ left lines.new) × Heads form (parts 32 names) (take (length (columns_of form)) columns)) }
     ensures number { IfSome result (λ _. lines.new.number ≡ lines.old.number + 1) }
 {

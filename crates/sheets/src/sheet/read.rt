@@ -9,7 +9,7 @@ ghost use Rattle.sheets.specs.Texts.{IsText};
 ghost use Rattle.sheets.specs.Sheets.{lines_of, IsFull, ReadsText};
 
 use super::Sheet;
-use crate::form::{Column, Form, ROOM};
+use crate::form::{Column, Form, MOST_COLUMNS};
 use crate::heading::next_columns;
 use crate::line::ask_line;
 use crate::reader::Reader;
@@ -21,7 +21,7 @@ const LONGEST: usize = 4096;
 // The value lines: line by line what each is asked, then how many they are.
 fn read_values<'a>(
     form: Form,
-    given: [Column; ROOM],
+    given: [Column; MOST_COLUMNS],
     mut lines: Reader<'a>,
 ) -> Result<Sheet<'a>, Fault>
     requires { lines.number ≡ 1 }
