@@ -14,7 +14,7 @@ fn first_separator(separator: u8, text: &[u8]) -> Option<usize>
 
 impl<'a> Reader<'a> {
     /// A reader at the head of the text.
-    pub fn new(text: &'a [u8], separator: u8) -> Reader<'a>
+    pub(crate) fn new(text: &'a [u8], separator: u8) -> Reader<'a>
         requires { length text.now ≤ 4096 }
         ensures left { left result ≡ parts separator text.now }
         ensures number { result.number ≡ 0 }
@@ -28,7 +28,7 @@ impl<'a> Reader<'a> {
     }
 
     /// The next part.
-    pub fn next(&mut self) -> Option<Part<'a>>
+    pub(crate) fn next(&mut self) -> Option<Part<'a>>
         ensures left { MatchOption result (left self.old ≡ []) (λ p. left self.old ≡ p.bytes.now ∷ left self.new) }
         ensures short { IfSome result (λ p. length p.bytes.now ≤ 4096) }
         ensures number { MatchOption result (self.new ≡ self.old) (λ p. (p.number ≡ self.old.number + 1) × (self.new.number ≡ self.old.number + 1)) }
