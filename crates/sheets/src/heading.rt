@@ -45,7 +45,8 @@ pub(crate) fn columns_named(form: Form, names: &[u8]) -> Option<[Column; MOST_CO
 
 /// The columns that the next line names, if they are the form's, each once.
 pub(crate) fn next_columns(form: Form, lines: &mut Reader<'_>) -> Option<[Column; MOST_COLUMNS]>
-    ensures columns { MatchOption result ((names : _) (rest : _) → left lines.old ≡ names ∷ rest → HasNames form (parts 32 names) → ⊥) (λ columns. (names : _) × (left lines.old ≡ names ∷ left lines.new) × Heads form (parts 32 names) (take (length (columns_of form)) columns)) }
+    ensures columns { MatchOption result ((names : _) (rest : _) → left lines.old ≡ names ∷ rest → HasNames form (parts 32 names) → ⊥)
+        (λ columns. (names : _) × (left lines.old ≡ names ∷ left lines.new) × Heads form (parts 32 names) (take (length (columns_of form)) columns)) }
     ensures number { IfSome result (λ _. lines.new.number ≡ lines.old.number + 1) }
 {
     let names = lines.next()?;

@@ -21,7 +21,9 @@ fn ask_names(tasks: &Sheet<'_>) -> Result<(), Fault>
 
 // The rows that the answer names, line by line.
 fn rows_named(tasks: &Sheet<'_>, answer: &Sheet<'_>) -> Result<[usize; 32], Fault>
-    ensures { MatchResult result (λ rows. EachLine (Answers tasks.now answer.now) (count_of answer.now) × RowsNamed tasks.now answer.now rows) (λ fault. (k : _) × (fault ≡ Fault.BadAnswer (name_place answer.now k)) × FirstLine (Answers tasks.now answer.now) (count_of answer.now) k) }
+    ensures { MatchResult result
+        (λ rows. EachLine (Answers tasks.now answer.now) (count_of answer.now) × RowsNamed tasks.now answer.now rows)
+        (λ fault. (k : _) × (fault ≡ Fault.BadAnswer (name_place answer.now k)) × FirstLine (Answers tasks.now answer.now) (count_of answer.now) k) }
 {
     let mut rows = [0; 32];
     for i in 0..answer.len() {

@@ -25,7 +25,11 @@ fn read_values<'a>(
     mut lines: Reader<'a>,
 ) -> Result<Sheet<'a>, Fault>
     requires { lines.number ≡ 1 }
-    ensures { MatchResult result (λ s. (s.form ≡ form) × (s.columns ≡ given) × (lines_of s ≡ left lines.entry) × FirstFit (take (length (columns_of form)) given) (left lines.entry) (length (left lines.entry)) × AllowedCount form (length (left lines.entry))) (λ fault. LinesMiss form (take (length (columns_of form)) given) (left lines.entry) fault) }
+    ensures { MatchResult result
+        (λ s. (s.form ≡ form) × (s.columns ≡ given) × (lines_of s ≡ left lines.entry)
+        × FirstFit (take (length (columns_of form)) given) (left lines.entry) (length (left lines.entry))
+        × AllowedCount form (length (left lines.entry)))
+        (λ fault. LinesMiss form (take (length (columns_of form)) given) (left lines.entry) fault) }
 {
     let columns = &given[..form.columns().len()];
     let mut kept: [&'a [u8]; 32] = [&[]; 32];
