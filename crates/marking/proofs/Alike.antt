@@ -13,8 +13,8 @@ use Rattle.sheets.specs.declared.form.Form.{Form}
 use Rattle.sheets.specs.declared.sheet.Sheet.{Sheet}
 use Rattle.sheets.specs.Fields.{value}
 use Rattle.sheets.specs.Forms.{name_of, place}
-use Rattle.sheets.specs.Sheets.{order_of, values_of, left_of, field_of, ReadsText}
-use Rattle.sheets.specs.Pairs.{count_of, task_of, IsNew, HasTaskAt, HasTask, Answers, IsAnswered, EachLine, FirstLine, PairMisses}
+use Rattle.sheets.specs.Sheets.{columns_in, values_of, left_of, field_of, ReadsText}
+use Rattle.sheets.specs.Pairs.{count_of, task_of, IsNewName, HasTaskAt, HasTask, Answers, IsAnswered, EachLine, FirstLine, PairMisses}
 use Rattle.sheets.proofs.Columns.{one_order}
 use Rattle.sheets.proofs.Cuts.{one_text}
 use Rattle.bounds.specs.Named.{IsTestName}
@@ -23,7 +23,7 @@ use Rattle.marking.specs.Questions.{number_under, Suits, HasTest, TestMisses, Ha
 -- Two sheets have one form, one order of columns and the same values.
 pub record Alike (s t : Sheet) : Type 0 where
   pub form : s.form ≡ t.form
-  pub order : order_of s ≡ order_of t
+  pub order : columns_in s ≡ columns_in t
   pub values : values_of s ≡ values_of t
 
 pub back : (s t : Sheet) → Alike s t → Alike t s
@@ -73,7 +73,7 @@ module _ (s t : Sheet) (like : Alike s t) where
   suits Deadline h = tt
   suits Estimate h = tt
 
-  is_new : (k : ℕ) → IsNew s k → IsNew t k
+  is_new : (k : ℕ) → IsNewName s k → IsNewName t k
   is_new k new i low high same = new i low high (field i Task ∙ same ∙ sym (field k Task))
 
   has_task_at : (name : List ℕ) (k : ℕ) → HasTaskAt s name k → HasTaskAt t name k
@@ -108,8 +108,8 @@ module _ (s t : Sheet) (tasks : Alike s t) (u v : Sheet) (answer : Alike u v) wh
       subst (λ n. (number_under t row Wcet ≤ n) × (n ≤ number_under t row Deadline)) (number u v answer k Estimate)
       (subst (λ (f : Column → ℕ). (f Wcet ≤ number_under u k Estimate) × (number_under u k Estimate ≤ f Deadline)) (λ i c. number s t tasks row c i) old)
 
-  each_new : EachLine (IsNew s) (count_of s) → EachLine (IsNew t) (count_of t)
-  each_new each = each_again (IsNew s) (IsNew t) (is_new s t tasks) (count_of s) (count_of t) (count s t tasks) each
+  each_new : EachLine (IsNewName s) (count_of s) → EachLine (IsNewName t) (count_of t)
+  each_new each = each_again (IsNewName s) (IsNewName t) (is_new s t tasks) (count_of s) (count_of t) (count s t tasks) each
 
   each_answers : EachLine (Answers s u) (count_of u) → EachLine (Answers t v) (count_of v)
   each_answers each = each_again (Answers s u) (Answers t v) answers (count_of u) (count_of v) (count u v answer) each
@@ -132,7 +132,7 @@ module _ (s t : Sheet) (tasks : Alike s t) (u v : Sheet) (answer : Alike u v) wh
   pair_misses (RepeatedTask p) m = (
     m.0,
     m.1 ∙ under s t tasks (m.0 + 1) Task,
-    first_again (IsNew s) (IsNew t) (is_new s t tasks) (count_of s) (count_of t) (count s t tasks) (is_new t s tasks_again) m.0 m.2,
+    first_again (IsNewName s) (IsNewName t) (is_new s t tasks) (count_of s) (count_of t) (count s t tasks) (is_new t s tasks_again) m.0 m.2,
   )
   pair_misses (BadAnswer p) m = (
     each_new s t tasks u v answer m.0,

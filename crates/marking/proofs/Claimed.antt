@@ -5,13 +5,13 @@ use Rattle.table.specs.Places.{nth}
 use Rattle.table.proofs.Placed.{nth_next}
 use Rattle.sheets.specs.declared.form.Column.TheVariants.{Wcet, Deadline, Estimate}
 use Rattle.sheets.specs.declared.sheet.Sheet.{Sheet}
-use Rattle.sheets.specs.Pairs.{count_of, task_of, IsNew, HasTaskAt, EachLine, EachRowOnce, Pairs}
+use Rattle.sheets.specs.Pairs.{count_of, task_of, IsNewName, HasTaskAt, EachLine, EachRowOnce, Pairs}
 use Rattle.sheets.proofs.Paired.{each_more, set_here, set_there}
 use Rattle.marking.specs.Questions.{number_under, HasEstimate}
 use Rattle.marking.specs.Reports.{EstimatesOf}
 
 -- a name stands in one line of the tasks sheet
-pub one_row : (tasks : Sheet) → EachLine (IsNew tasks) (count_of tasks) → (name : List ℕ) (j k : ℕ) → HasTaskAt tasks name j → HasTaskAt tasks name k → j ≡ k
+pub one_row : (tasks : Sheet) → EachLine (IsNewName tasks) (count_of tasks) → (name : List ℕ) (j k : ℕ) → HasTaskAt tasks name j → HasTaskAt tasks name k → j ≡ k
 one_row tasks new name j k a b = elim (cases_lt j k) [
   | inl low ↦ absurd (new k b.0 b.1 j a.0 low (a.2 ∙ sym b.2))
   | inr m ↦ elim (cases_lt k j) [

@@ -7,12 +7,12 @@ use Rattle.sheets.specs.declared.form.Column.{Column}
 use Rattle.sheets.specs.declared.form.Form.{Form}
 use Rattle.sheets.specs.declared.sheet.Sheet.{Sheet}
 use Rattle.sheets.specs.Forms.{name_of}
-use Rattle.sheets.specs.Sheets.{order_of, values_of, left_of, field_of, ReadsText}
+use Rattle.sheets.specs.Sheets.{columns_in, values_of, left_of, field_of, ReadsText}
 use Rattle.sheets.proofs.Cuts.{one_text}
 
 -- two sheets are alike: the same names of columns, and the same value lines
 pub record SameSheet (s u : Sheet) : Type 0 where
-  pub names : map name_of (order_of s) ≡ map name_of (order_of u)
+  pub names : map name_of (columns_in s) ≡ map name_of (columns_in u)
   pub values : values_of s ≡ values_of u
 
 pub one_sheet : (form : Form) (text : List ℕ) (s u : Sheet) → ReadsText form text (Ok s) → ReadsText form text (Ok u) → SameSheet s u
@@ -32,7 +32,7 @@ module _ (s u : Sheet) (same : SameSheet s u) where
   same_left : (c : Column) → left_of s c ≡ left_of u c
   same_left c =
       let test : List ℕ → Bool = λ name. bytes_eq name (name_of c) in
-      place_by_name test (order_of s) ∙ ap (position_or_len test) same.names ∙ sym (place_by_name test (order_of u))
+      place_by_name test (columns_in s) ∙ ap (position_or_len test) same.names ∙ sym (place_by_name test (columns_in u))
 
   pub same_field : (k : ℕ) (c : Column) → field_of s k c ≡ field_of u k c
   same_field k c = ap (λ (x : List (List (List ℕ))). nth (nth x k []) (left_of s c + 1) []) same.values ∙ ap (λ i. nth (nth (values_of u) k []) (i + 1) []) (same_left c)

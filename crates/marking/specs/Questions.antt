@@ -16,7 +16,7 @@ use Rattle.sheets.specs.Sheets.{left_of, HasField, field_of}
 use Rattle.sheets.specs.declared.form.Form.{Form}
 use Rattle.sheets.specs.declared.form.Form.TheVariants.{Board, Tasks, Answer}
 use Rattle.sheets.specs.Reading.{IsFirst, IsSheet}
-use Rattle.sheets.specs.Pairs.{count_of, task_of, IsNew, Answers, IsAnswered, HasTaskAt, EachLine, FirstLine, PairMisses}
+use Rattle.sheets.specs.Pairs.{count_of, task_of, IsNewName, Answers, IsAnswered, HasTaskAt, EachLine, FirstLine, PairMisses}
 
 -- the number under a column in the k-th value line
 abbrev pub number_under : Sheet → ℕ → Column → ℕ
@@ -75,7 +75,7 @@ pub data TextsMiss (board tasks answer : List ℕ) (fault : Fault) : Type 0 wher
 
 -- no question of a pair is missed
 abbrev pub IsPaired : Sheet → Sheet → Type 0
-IsPaired tasks answer = EachLine (IsNew tasks) (count_of tasks) × EachLine (Answers tasks answer) (count_of answer) × EachLine (IsAnswered tasks answer) (count_of tasks)
+IsPaired tasks answer = EachLine (IsNewName tasks) (count_of tasks) × EachLine (Answers tasks answer) (count_of answer) × EachLine (IsAnswered tasks answer) (count_of tasks)
 
 -- The fault is the first of three sheets: the board's test is asked first, then the pair, the rows and the estimates.
 pub data SheetsMiss (board tasks answer : Sheet) (fault : Fault) : Type 0 where

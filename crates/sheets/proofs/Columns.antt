@@ -68,12 +68,12 @@ named_at (p ∷ ps) f rest [] e = cc
 named_at (p ∷ ps) f rest (c ∷ cs) e = named_at ps f rest cs cc
 
 -- one more name
-pub named_more : (order : List Column) (count : ℕ) (c : Column) (f : List ℕ) (rest : List (List ℕ)) → count < length order → f ≡ name_of c → map name_of (take count order) ++ f ∷ rest ≡ map name_of (take (count + 1) (set order count c)) ++ rest
-named_more order count c f rest inside is =
-    ap (λ (g : List ℕ). map name_of (take count order) ++ g ∷ rest) is
-    ∙ sym (append_assoc (map name_of (take count order)) (name_of c ∷ []) rest)
-    ∙ ap (λ l. l ++ rest) (sym (map-append name_of (take count order) (c ∷ [])))
-    ∙ ap (λ (cs : List Column). map name_of cs ++ rest) (sym (take_more_set order count c inside))
+pub named_more : (columns : List Column) (count : ℕ) (c : Column) (f : List ℕ) (rest : List (List ℕ)) → count < length columns → f ≡ name_of c → map name_of (take count columns) ++ f ∷ rest ≡ map name_of (take (count + 1) (set columns count c)) ++ rest
+named_more columns count c f rest inside is =
+    ap (λ (g : List ℕ). map name_of (take count columns) ++ g ∷ rest) is
+    ∙ sym (append_assoc (map name_of (take count columns)) (name_of c ∷ []) rest)
+    ∙ ap (λ l. l ++ rest) (sym (map-append name_of (take count columns) (c ∷ [])))
+    ∙ ap (λ (cs : List Column). map name_of cs ++ rest) (sym (take_more_set columns count c inside))
 
 module _ (form : Form) (names : List (List ℕ)) where
   -- a field that names no column is none of the names
@@ -85,15 +85,15 @@ module _ (form : Form) (names : List (List ℕ)) where
   too_many cs f rest whole full given =
       omega (arith, ap length whole, length-append (map name_of cs) (f ∷ rest), length-map cs name_of, ap length given.1.named, length-map given.0 name_of, given.1.size)
 
-  -- the columns so far are the order, if the test says so
-  pub heads_by : (order : List Column) (count : ℕ) (said : Bool) (r : Option (List Column)) → names ≡ map name_of (take count order) → length (take count order) ≡ count → Decides said ((length (take count order) ≡ length (columns_of form)) × All (Contains (take count order)) (columns_of form)) → r ≡ then_some said order → MatchOption r (HasNames form names → ⊥) (λ o. Heads form names (take (length (columns_of form)) o))
-  heads_by order count said r whole long test is = subst (λ q. MatchOption q (HasNames form names → ⊥) (λ o. Heads form names (take (length (columns_of form)) o))) (sym is) (go said refl) where
-    go : (v : Bool) → said ≡ v → MatchOption (then_some v order) (HasNames form names → ⊥) (λ o. Heads form names (take (length (columns_of form)) o))
+  -- the columns so far are the form's, if the test says so
+  pub heads_by : (columns : List Column) (count : ℕ) (said : Bool) (r : Option (List Column)) → names ≡ map name_of (take count columns) → length (take count columns) ≡ count → Decides said ((length (take count columns) ≡ length (columns_of form)) × All (Contains (take count columns)) (columns_of form)) → r ≡ then_some said columns → MatchOption r (HasNames form names → ⊥) (λ o. Heads form names (take (length (columns_of form)) o))
+  heads_by columns count said r whole long test is = subst (λ q. MatchOption q (HasNames form names → ⊥) (λ o. Heads form names (take (length (columns_of form)) o))) (sym is) (go said refl) where
+    go : (v : Bool) → said ≡ v → MatchOption (then_some v columns) (HasNames form names → ⊥) (λ o. Heads form names (take (length (columns_of form)) o))
     go true e =
         let h = test.0 e in
-        subst (λ n. Heads form names (take n order)) (sym long ∙ h.0) (record { named = whole; size = h.0; each = h.1 })
+        subst (λ n. Heads form names (take n columns)) (sym long ∙ h.0) (record { named = whole; size = h.0; each = h.1 })
     go false e = λ given.
-        let same : given.0 ≡ take count order = one_order given.0 (take count order) (sym given.1.named ∙ whole) in
+        let same : given.0 ≡ take count columns = one_order given.0 (take count columns) (sym given.1.named ∙ whole) in
         false≢true (sym e ∙ test.1 (ap length (sym same) ∙ given.1.size, subst (λ xs. All (Contains xs) (columns_of form)) same given.1.each))
 
 -- the same of the line that is left first

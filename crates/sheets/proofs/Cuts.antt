@@ -25,7 +25,7 @@ module _ (P : ℕ → Type 0) (m : ℕ) where
   onto x [] p h = All-cons (All P) (x ∷ []) [] (All-cons P x [] p (All-nil P)) (All-nil (All P))
   onto x (y ∷ ps) p h = All-cons (All P) (x ∷ y) ps (All-cons P x y p (All-head (All P) y ps h)) (All-tail (All P) y ps h)
 
-  -- what holds of each byte but the mark holds of each byte of the parts
+  -- what holds of each byte but the separator holds of each byte of the parts
   pub parts_hold : (xs : List ℕ) → All (λ b. b ≢ m → P b) xs → All (All P) (parts m xs)
   parts_hold [] h = All-cons (All P) [] [] (All-nil P) (All-nil (All P))
   parts_hold (x ∷ xs) h =
@@ -47,7 +47,7 @@ ended_lines (l ∷ k ∷ ls) some =
 lacks : (m : ℕ) (p : List ℕ) → All (λ b. b ≢ m) p → All (λ b. (b == m) ≡ false) p
 lacks m p h = All-weaker (λ b. b ≢ m) (λ b. (b == m) ≡ false) (λ b d. grind (arith, nat_tests)) p h
 
--- parts that lack the mark are cut where they were joined
+-- parts that lack the separator are cut where they were joined
 pub parts-join : (m : ℕ) (ps : List (List ℕ)) → 1 ≤ length ps → All (All (λ b. b ≢ m)) ps → parts m (join_with_byte m ps) ≡ ps
 parts-join m [] some h = absurd (omega arith)
 parts-join m (p ∷ []) some h = slice_split_none (λ b. b == m) p (lacks m p (All-head (All (λ b. b ≢ m)) p [] h))

@@ -14,7 +14,7 @@ use Rattle.sheets.specs.declared.form.Column.TheVariants.{Processors, Overhead, 
 use Rattle.sheets.specs.declared.form.Form.{Form}
 use Rattle.sheets.specs.Forms.{name_of, kind_of, most_of, place}
 use Rattle.sheets.specs.Texts.{IsText, parts}
-use Rattle.sheets.specs.Reading.{IsSized, Heads, HasNames, IsOfKind, Allowed, IsValueLine, field, SameCount, Conforms, line_at_fault, MissedIn, Missed, is_late, IsFirst, IsSheet}
+use Rattle.sheets.specs.Reading.{IsSized, Heads, HasNames, IsOfKind, AllowedCount, IsValueLine, field, SameCount, Conforms, line_at_fault, MissedIn, Missed, is_late, IsFirst, IsSheet}
 use Rattle.sheets.specs.Lines.{FitsAt, Misses, FirstFit, LinesMiss}
 use Rattle.sheets.proofs.Parts.{get_or-map}
 use Rattle.sheets.proofs.Columns.{one_column}
@@ -32,18 +32,18 @@ named Deadline e = cc
 named Estimate e = cc
 
 -- a line that is asked: its fields, and those of line 1 with their columns
-module _ (names fields : List (List ℕ)) (order : List Column) (heads : names ≡ map name_of order) where
-  name_at : (j : ℕ) → j < length order → get_or names j [] ≡ name_of (get_or order j Processors)
-  name_at j inside = ap (λ l. get_or l j []) heads ∙ get_or_default (map name_of order) j [] (name_of Processors) (omega (arith, length-map order name_of)) ∙ get_or-map name_of order j Processors
+module _ (names fields : List (List ℕ)) (columns : List Column) (heads : names ≡ map name_of columns) where
+  name_at : (j : ℕ) → j < length columns → get_or names j [] ≡ name_of (get_or columns j Processors)
+  name_at j inside = ap (λ l. get_or l j []) heads ∙ get_or_default (map name_of columns) j [] (name_of Processors) (omega (arith, length-map columns name_of)) ∙ get_or-map name_of columns j Processors
 
-  conforms_from : (j : ℕ) → FitsAt order fields j → (c : Column) → get_or names j [] ≡ name_of c → IsOfKind (kind_of c) (get_or fields j [])
-  conforms_from j fit c is = elim (cases_lt j (length order)) [
-    | inl l ↦ let same : get_or order j Processors ≡ c = one_column _ c (sym (name_at j l) ∙ is) in subst (λ d. IsOfKind (kind_of d) (get_or fields j [])) same fit
-    | inr m ↦ absurd (named c (sym (get_or_past names j [] (omega (arith, ap length heads, length-map order name_of))) ∙ is))
+  conforms_from : (j : ℕ) → FitsAt columns fields j → (c : Column) → get_or names j [] ≡ name_of c → IsOfKind (kind_of c) (get_or fields j [])
+  conforms_from j fit c is = elim (cases_lt j (length columns)) [
+    | inl l ↦ let same : get_or columns j Processors ≡ c = one_column _ c (sym (name_at j l) ∙ is) in subst (λ d. IsOfKind (kind_of d) (get_or fields j [])) same fit
+    | inr m ↦ absurd (named c (sym (get_or_past names j [] (omega (arith, ap length heads, length-map columns name_of))) ∙ is))
   ]
 
-  conforms_to : (j : ℕ) → j < length order → ((c : Column) → get_or names j [] ≡ name_of c → IsOfKind (kind_of c) (get_or fields j [])) → FitsAt order fields j
-  conforms_to j inside h = h (get_or order j Processors) (name_at j inside)
+  conforms_to : (j : ℕ) → j < length columns → ((c : Column) → get_or names j [] ≡ name_of c → IsOfKind (kind_of c) (get_or fields j [])) → FitsAt columns fields j
+  conforms_to j inside h = h (get_or columns j Processors) (name_at j inside)
 
 -- a text by its line of names and its value lines
 module _ (form : Form) (first : List ℕ) (ls : List (List ℕ)) where
@@ -66,14 +66,14 @@ module _ (form : Form) (first : List ℕ) (ls : List (List ℕ)) where
       ∙ get_or_default (map (parts 32) ls) (k - 2) [] (parts 32 []) (omega (arith, within k v, length-map ls (parts 32)))
       ∙ get_or-map (parts 32) ls (k - 2) []
 
-  module _ (order : List Column) (heads : Heads form (parts 32 first) order) where
-    width : length (nth seen 1 []) ≡ length order
-    width = ap length (first_at ∙ heads.named) ∙ length-map order name_of
+  module _ (columns : List Column) (heads : Heads form (parts 32 first) columns) where
+    width : length (nth seen 1 []) ≡ length columns
+    width = ap length (first_at ∙ heads.named) ∙ length-map columns name_of
 
-    count_from : (k : ℕ) → IsValueLine seen k → length (line k) ≡ length order → SameCount seen k
+    count_from : (k : ℕ) → IsValueLine seen k → length (line k) ≡ length columns → SameCount seen k
     count_from k v e = ap length (line_at k v) ∙ e ∙ sym width
 
-    count_to : (k : ℕ) → IsValueLine seen k → SameCount seen k → length (line k) ≡ length order
+    count_to : (k : ℕ) → IsValueLine seen k → SameCount seen k → length (line k) ≡ length columns
     count_to k v e = sym (ap length (line_at k v)) ∙ e ∙ width
 
     field_at : (k j : ℕ) → IsValueLine seen k → 1 ≤ j → field seen k j ≡ get_or (line k) (j - 1) []
@@ -82,15 +82,15 @@ module _ (form : Form) (first : List ℕ) (ls : List (List ℕ)) where
     heading_at : (j : ℕ) → 1 ≤ j → field seen 1 j ≡ get_or (parts 32 first) (j - 1) []
     heading_at j low = nth_at (nth seen 1 []) j [] low ∙ ap (λ l. get_or l (j - 1) []) first_at
 
-    kind_from : (k j : ℕ) → IsValueLine seen k → 1 ≤ j → FitsAt order (line k) (j - 1) → Conforms seen k j
-    kind_from k j v low fit = λ c is. subst (IsOfKind (kind_of c)) (sym (field_at k j v low)) (conforms_from (parts 32 first) (line k) order heads.named (j - 1) fit c (sym (heading_at j low) ∙ is))
+    kind_from : (k j : ℕ) → IsValueLine seen k → 1 ≤ j → FitsAt columns (line k) (j - 1) → Conforms seen k j
+    kind_from k j v low fit = λ c is. subst (IsOfKind (kind_of c)) (sym (field_at k j v low)) (conforms_from (parts 32 first) (line k) columns heads.named (j - 1) fit c (sym (heading_at j low) ∙ is))
 
-    kind_to : (k j : ℕ) → IsValueLine seen k → 1 ≤ j → j - 1 < length order → Conforms seen k j → FitsAt order (line k) (j - 1)
-    kind_to k j v low inside h = conforms_to (parts 32 first) (line k) order heads.named (j - 1) inside (λ c is. subst (IsOfKind (kind_of c)) (field_at k j v low) (h c (heading_at j low ∙ is)))
+    kind_to : (k j : ℕ) → IsValueLine seen k → 1 ≤ j → j - 1 < length columns → Conforms seen k j → FitsAt columns (line k) (j - 1)
+    kind_to k j v low inside h = conforms_to (parts 32 first) (line k) columns heads.named (j - 1) inside (λ c is. subst (IsOfKind (kind_of c)) (field_at k j v low) (h c (heading_at j low ∙ is)))
 
     -- where the lines and fields that are asked miss nothing, no early question is missed
     no_miss : (f : Fault) → is_late f ≡ 0 → ((k : ℕ) → IsValueLine seen k → (place_of f).line ≡ k → (place_of f).field ≡ 0 → SameCount seen k) → ((k j : ℕ) → IsValueLine seen k → 1 ≤ j → j ≤ length (nth seen k []) → (place_of f).line ≡ k → (place_of f).field ≡ j → Conforms seen k j) → MissedIn form seen f → ⊥
-    no_miss (BadNames p) early counts kinds m = m.1 (order, subst (λ l. Heads form l order) (sym first_at) heads)
+    no_miss (BadNames p) early counts kinds m = m.1 (columns, subst (λ l. Heads form l columns) (sym first_at) heads)
     no_miss (BadFieldCount p) early counts kinds m = m.3 (counts m.0 m.2 (ap (λ (q : Place). q.line) m.1) (ap (λ (q : Place). q.field) m.1))
     no_miss (BadField p) early counts kinds m = m.6 (kinds m.0 m.1 m.3 m.4 m.5 (ap (λ (q : Place). q.line) m.2) (ap (λ (q : Place). q.field) m.2))
     no_miss (BadLineCount p) early counts kinds m = absurd (omega (arith, early))
@@ -135,28 +135,28 @@ module _ (form : Form) (text : List ℕ) (first : List ℕ) (ls : List (List ℕ
         elim e.1 [ inl l ↦ in_line_0 other e.0 l (in_all other m) | inr l ↦ omega (arith, l.1) ],
   )
 
-  module _ (order : List Column) (heads : Heads form (parts 32 first) order) where
+  module _ (columns : List Column) (heads : Heads form (parts 32 first) columns) where
     value_line : (i : ℕ) → i < length ls → IsValueLine all (i + 2)
     value_line i inside = (omega arith, omega (arith, length-map ls (parts 32)))
 
-    count_before : (i : ℕ) → FirstFit order ls i → (k : ℕ) → k < i + 2 → IsValueLine all k → SameCount all k
-    count_before i fit k l v = count_from form first ls order heads k v (fit (k - 2) (omega (arith, v.0))).0
+    count_before : (i : ℕ) → FirstFit columns ls i → (k : ℕ) → k < i + 2 → IsValueLine all k → SameCount all k
+    count_before i fit k l v = count_from form first ls columns heads k v (fit (k - 2) (omega (arith, v.0))).0
 
-    kind_before : (i : ℕ) → FirstFit order ls i → (k j : ℕ) → k < i + 2 → IsValueLine all k → 1 ≤ j → j ≤ length (nth all k []) → Conforms all k j
+    kind_before : (i : ℕ) → FirstFit columns ls i → (k j : ℕ) → k < i + 2 → IsValueLine all k → 1 ≤ j → j ≤ length (nth all k []) → Conforms all k j
     kind_before i fit k j l v low high =
         let f = fit (k - 2) (omega (arith, v.0)) in
-        kind_from form first ls order heads k j v low (f.1 (j - 1) (omega (arith, f.0, ap length (line_at form first ls k v))))
+        kind_from form first ls columns heads k j v low (f.1 (j - 1) (omega (arith, f.0, ap length (line_at form first ls k v))))
 
     -- a value line is the first to miss a question
-    line_first : (i : ℕ) → i < length ls → FirstFit order ls i → (fault : Fault) → Misses form order (i + 2) (line form first ls (i + 2)) fault → IsFirst form text fault
+    line_first : (i : ℕ) → i < length ls → FirstFit columns ls i → (fault : Fault) → Misses form columns (i + 2) (line form first ls (i + 2)) fault → IsFirst form text fault
     line_first i inside fit fault (inl m) =
         let v = value_line i inside in
         subst (IsFirst form text) (sym m.1) (
-          (all, is_text, (i + 2, refl, v, λ same. m.0 (count_to form first ls order heads (i + 2) v same))),
+          (all, is_text, (i + 2, refl, v, λ same. m.0 (count_to form first ls columns heads (i + 2) v same))),
           λ other b missed.
               let e = earlier (is_late other) (place_of other).line (place_of other).field (i + 2) 0 b in
               let low : (place_of other).line < i + 2 = elim e.1 [ inl l ↦ l | inr l ↦ absurd (omega (arith, l.1)) ] in
-              no_miss form first ls order heads other e.0
+              no_miss form first ls columns heads other e.0
               (λ k w line_is field_is. count_before i fit k (omega arith) w)
               (λ k j w one more line_is field_is. kind_before i fit k j (omega arith) w one more)
               (in_all other missed),
@@ -164,19 +164,19 @@ module _ (form : Form) (text : List ℕ) (first : List ℕ) (ls : List (List ℕ
     line_first i inside fit fault (inr m) =
         let v = value_line i inside in
         let j = m.1 in
-        let long : length (nth all (i + 2) []) ≡ length order = ap length (line_at form first ls (i + 2) v) ∙ m.0 in
+        let long : length (nth all (i + 2) []) ≡ length columns = ap length (line_at form first ls (i + 2) v) ∙ m.0 in
         subst (IsFirst form text) (sym m.2) (
-          (all, is_text, (i + 2, j + 1, refl, v, omega arith, omega (arith, m.3), λ conforms. m.5 (subst (FitsAt order (line form first ls (i + 2))) (let e : j + 1 - 1 ≡ j = omega arith in e) (kind_to form first ls order heads (i + 2) (j + 1) v (omega arith) (omega (arith, m.3)) conforms)))),
+          (all, is_text, (i + 2, j + 1, refl, v, omega arith, omega (arith, m.3), λ conforms. m.5 (subst (FitsAt columns (line form first ls (i + 2))) (let e : j + 1 - 1 ≡ j = omega arith in e) (kind_to form first ls columns heads (i + 2) (j + 1) v (omega arith) (omega (arith, m.3)) conforms)))),
           λ other b missed.
               let e = earlier (is_late other) (place_of other).line (place_of other).field (i + 2) (j + 1) b in
-              no_miss form first ls order heads other e.0
+              no_miss form first ls columns heads other e.0
               (λ k w line_is field_is. elim e.1 [
                 | inl l ↦ count_before i fit k (omega arith) w
-                | inr l ↦ subst (SameCount all) (let q : i + 2 ≡ k = omega (arith, l.0) in q) (count_from form first ls order heads (i + 2) v m.0)
+                | inr l ↦ subst (SameCount all) (let q : i + 2 ≡ k = omega (arith, l.0) in q) (count_from form first ls columns heads (i + 2) v m.0)
               ])
               (λ k n w one more line_is field_is. elim e.1 [
                 | inl l ↦ kind_before i fit k n (omega arith) w one more
-                | inr l ↦ subst (λ q. Conforms all q n) (let q : i + 2 ≡ k = omega (arith, l.0) in q) (kind_from form first ls order heads (i + 2) n v one (m.4 (n - 1) (omega (arith, l.1))))
+                | inr l ↦ subst (λ q. Conforms all q n) (let q : i + 2 ≡ k = omega (arith, l.0) in q) (kind_from form first ls columns heads (i + 2) n v one (m.4 (n - 1) (omega (arith, l.1))))
               ])
               (in_all other missed),
         )
@@ -186,14 +186,14 @@ module _ (form : Form) (text : List ℕ) (first : List ℕ) (ls : List (List ℕ
     place_late f late m = absurd (omega (arith, late))
 
     -- the value lines miss a question
-    pub lines_first : (fault : Fault) → LinesMiss form order ls fault → IsFirst form text fault
-    lines_first fault (inl m) = line_first m.0 m.1 m.2 fault (subst (λ n. Misses form order (m.0 + 2) (parts 32 (get_or ls n [])) fault) (let e : m.0 ≡ m.0 + 2 - 2 = omega arith in e) m.3)
+    pub lines_first : (fault : Fault) → LinesMiss form columns ls fault → IsFirst form text fault
+    lines_first fault (inl m) = line_first m.0 m.1 m.2 fault (subst (λ n. Misses form columns (m.0 + 2) (parts 32 (get_or ls n [])) fault) (let e : m.0 ≡ m.0 + 2 - 2 = omega arith in e) m.3)
     lines_first fault (inr m) =
         let at : place form (cond (length ls == 0) 1 (most_of form + 2)) 0 ≡ place form (line_at_fault form all) 0 = ap (λ b. place form (cond b 1 (most_of form + 2)) 0) (same_test (length ls) (length all) (omega (arith, length-map ls (parts 32)))) in
         subst (IsFirst form text) (sym m.2) (
-          (all, is_text, (at, λ few. m.1 (subst (Allowed form) (let e : length all - 1 ≡ length ls = omega (arith, length-map ls (parts 32)) in e) few))),
+          (all, is_text, (at, λ few. m.1 (subst (AllowedCount form) (let e : length all - 1 ≡ length ls = omega (arith, length-map ls (parts 32)) in e) few))),
           λ other b missed. elim b [
-            | inl early ↦ no_miss form first ls order heads other (omega arith)
+            | inl early ↦ no_miss form first ls columns heads other (omega arith)
                 (λ k w line_is field_is. count_before (length ls) m.0 k (omega (arith, w.1, length-map ls (parts 32))) w)
                 (λ k j w one more line_is field_is. kind_before (length ls) m.0 k j (omega (arith, w.1, length-map ls (parts 32))) w one more)
                 (in_all other missed)
@@ -207,21 +207,21 @@ module _ (form : Form) (text : List ℕ) (first : List ℕ) (ls : List (List ℕ
         )
 
     -- no question is missed
-    pub sheet_from : FirstFit order ls (length ls) → Allowed form (length ls) → IsSheet form text all order
+    pub sheet_from : FirstFit columns ls (length ls) → AllowedCount form (length ls) → IsSheet form text all columns
     sheet_from fit few = record {
       sized = sized;
       cut = is_text;
-      heads = subst (λ l. Heads form l order) (sym (first_at form first ls)) heads;
+      heads = subst (λ l. Heads form l columns) (sym (first_at form first ls)) heads;
       counts = λ k v. count_before (length ls) fit k (omega (arith, v.1, length-map ls (parts 32))) v;
       kinds = λ k j v one more. kind_before (length ls) fit k j (omega (arith, v.1, length-map ls (parts 32))) v one more;
-      allowed = subst (Allowed form) (let e : length ls ≡ length all - 1 = omega (arith, length-map ls (parts 32)) in e) few;
+      allowed = subst (AllowedCount form) (let e : length ls ≡ length all - 1 = omega (arith, length-map ls (parts 32)) in e) few;
     }
 
 -- a text that is a sheet misses no question
-pub sheet_misses_none : (form : Form) (text : List ℕ) (lines : List (List (List ℕ))) (order : List Column) → IsSheet form text lines order → (f : Fault) → Missed form text f → ⊥
-sheet_misses_none form text lines order s (BadText p) m = m.1 s.sized
-sheet_misses_none form text lines order s (BadNames p) m = (subst (λ l. MissedIn form l (BadNames p)) (one_text text m.0 lines m.1 s.cut) m.2).1 (order, s.heads)
-sheet_misses_none form text lines order s (BadFieldCount p) m = let n = subst (λ l. MissedIn form l (BadFieldCount p)) (one_text text m.0 lines m.1 s.cut) m.2 in n.3 (s.counts n.0 n.2)
-sheet_misses_none form text lines order s (BadField p) m = let n = subst (λ l. MissedIn form l (BadField p)) (one_text text m.0 lines m.1 s.cut) m.2 in n.6 (s.kinds n.0 n.1 n.3 n.4 n.5)
-sheet_misses_none form text lines order s (BadLineCount p) m = (subst (λ l. MissedIn form l (BadLineCount p)) (one_text text m.0 lines m.1 s.cut) m.2).1 s.allowed
-sheet_misses_none form text lines order s f m = m.2
+pub sheet_misses_none : (form : Form) (text : List ℕ) (lines : List (List (List ℕ))) (columns : List Column) → IsSheet form text lines columns → (f : Fault) → Missed form text f → ⊥
+sheet_misses_none form text lines columns s (BadText p) m = m.1 s.sized
+sheet_misses_none form text lines columns s (BadNames p) m = (subst (λ l. MissedIn form l (BadNames p)) (one_text text m.0 lines m.1 s.cut) m.2).1 (columns, s.heads)
+sheet_misses_none form text lines columns s (BadFieldCount p) m = let n = subst (λ l. MissedIn form l (BadFieldCount p)) (one_text text m.0 lines m.1 s.cut) m.2 in n.3 (s.counts n.0 n.2)
+sheet_misses_none form text lines columns s (BadField p) m = let n = subst (λ l. MissedIn form l (BadField p)) (one_text text m.0 lines m.1 s.cut) m.2 in n.6 (s.kinds n.0 n.1 n.3 n.4 n.5)
+sheet_misses_none form text lines columns s (BadLineCount p) m = (subst (λ l. MissedIn form l (BadLineCount p)) (one_text text m.0 lines m.1 s.cut) m.2).1 s.allowed
+sheet_misses_none form text lines columns s f m = m.2

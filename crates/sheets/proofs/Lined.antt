@@ -12,7 +12,7 @@ use Rattle.sheets.specs.declared.form.Column.{Column}
 use Rattle.sheets.specs.declared.form.Form.{Form}
 use Rattle.sheets.specs.declared.form.Form.TheVariants.{Board, Tasks, Answer}
 use Rattle.sheets.specs.Forms.{most_of, place}
-use Rattle.sheets.specs.Reading.{Allowed}
+use Rattle.sheets.specs.Reading.{AllowedCount}
 use Rattle.sheets.specs.Lines.{Fits, Misses, FirstFit, LinesMiss}
 use Rattle.sheets.specs.Texts.{parts}
 use Rattle.sheets.proofs.Parts.{next_left, get_or-map}
@@ -44,8 +44,8 @@ module _ (kept : List (Bor (List ℕ))) (lines : List (List ℕ)) (n : ℕ) wher
       ∙ sym (take_more lines n [] here)
 
 -- each value line misses nothing, but their number is not allowed
-pub count_miss : (form : Form) (columns : List Column) (lines : List (List ℕ)) (n : ℕ) (p : Place) → FirstFit columns lines n → n ≡ length lines → (Allowed form n → ⊥) → p ≡ place form (cond (n == 0) 1 (most_of form + 2)) 0 → LinesMiss form columns lines (BadLineCount p)
-count_miss form columns lines n p fit all bad is = let same = λ (m : ℕ). (FirstFit columns lines m × (Allowed form m → ⊥) × (BadLineCount p ≡ BadLineCount (place form (cond (m == 0) 1 (most_of form + 2)) 0))) in inr (subst same all (fit, bad, ap BadLineCount is))
+pub count_miss : (form : Form) (columns : List Column) (lines : List (List ℕ)) (n : ℕ) (p : Place) → FirstFit columns lines n → n ≡ length lines → (AllowedCount form n → ⊥) → p ≡ place form (cond (n == 0) 1 (most_of form + 2)) 0 → LinesMiss form columns lines (BadLineCount p)
+count_miss form columns lines n p fit all bad is = let same = λ (m : ℕ). (FirstFit columns lines m × (AllowedCount form m → ⊥) × (BadLineCount p ≡ BadLineCount (place form (cond (m == 0) 1 (most_of form + 2)) 0))) in inr (subst same all (fit, bad, ap BadLineCount is))
 
 pub few_lines : (form : Form) → most_of form ≤ 32
 few_lines Board = omega arith

@@ -5,7 +5,7 @@ use Rattle.std.proofs.lemmas.Bool.{cases_lt}
 use Rattle.std.proofs.lemmas.Bool.Decides.{nat_tests}
 use Rattle.table.specs.declared.fault.Fault.{Fault}
 use Rattle.sheets.specs.declared.sheet.Sheet.{Sheet}
-use Rattle.sheets.specs.Pairs.{count_of, task_of, IsNew, Answers, IsAnswered, EachLine, RowsNamed, EachRowOnce, Pairs}
+use Rattle.sheets.specs.Pairs.{count_of, task_of, IsNewName, Answers, IsAnswered, EachLine, RowsNamed, EachRowOnce, Pairs}
 
 -- the numbers but a, in order
 abbrev skip : ℕ → ℕ → ℕ
@@ -37,14 +37,14 @@ no_more (suc n) m has each apart =
     omega (arith, rest, last.1)
 
 -- no two lines have the same name
-same_line : (s : Sheet) (n : ℕ) → EachLine (IsNew s) n → (k l : ℕ) → 1 ≤ k → k ≤ n → 1 ≤ l → l ≤ n → task_of s k ≡ task_of s l → k ≡ l
+same_line : (s : Sheet) (n : ℕ) → EachLine (IsNewName s) n → (k l : ℕ) → 1 ≤ k → k ≤ n → 1 ≤ l → l ≤ n → task_of s k ≡ task_of s l → k ≡ l
 same_line s n new k l a b d e is = elim (cases_lt k l) [
   | inl low ↦ absurd (new l d e k a low is)
   | inr g ↦ elim (cases_lt l k) [ inl low ↦ absurd (new k a b l d low (sym is)) | inr h ↦ omega arith ]
 ]
 
-module _ (tasks answer : Sheet) (new : EachLine (IsNew tasks) (count_of tasks)) (answers : EachLine (Answers tasks answer) (count_of answer)) (answered : EachLine (IsAnswered tasks answer) (count_of tasks)) where
-  fresh : EachLine (IsNew answer) (count_of answer)
+module _ (tasks answer : Sheet) (new : EachLine (IsNewName tasks) (count_of tasks)) (answers : EachLine (Answers tasks answer) (count_of answer)) (answered : EachLine (IsAnswered tasks answer) (count_of tasks)) where
+  fresh : EachLine (IsNewName answer) (count_of answer)
   fresh k low high = (answers k low high).1
 
   few_answers : count_of answer ≤ count_of tasks

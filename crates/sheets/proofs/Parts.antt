@@ -25,7 +25,7 @@ module _ (m : ℕ) (text : List ℕ) where
   abbrev is : ℕ → Bool
   is b = b == m
 
-  -- the first part, and those behind its mark
+  -- the first part, and those behind its separator
   first_part : position_or_len is text < length text → parts m text ≡ take (position_or_len is text) text ∷ parts m (drop (position_or_len is text + 1) text)
   first_part h = slice_split_first is text 0 h
 

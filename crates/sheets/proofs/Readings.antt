@@ -8,7 +8,7 @@ use Rattle.sheets.specs.declared.form.Form.{Form}
 use Rattle.sheets.specs.declared.sheet.Sheet.{Sheet}
 use Rattle.sheets.specs.Forms.{columns_of, place}
 use Rattle.sheets.specs.Texts.{IsText, parts}
-use Rattle.sheets.specs.Reading.{IsSized, Heads, HasNames, Allowed, IsFirst, IsSheet}
+use Rattle.sheets.specs.Reading.{IsSized, Heads, HasNames, AllowedCount, IsFirst, IsSheet}
 use Rattle.sheets.specs.Lines.{FirstFit, LinesMiss}
 use Rattle.sheets.specs.Sheets.{lines_of, ReadsText}
 use Rattle.sheets.proofs.Cuts.{ended, some_part, cut_is_text}
@@ -26,16 +26,16 @@ module _ (form : Form) (text : List ℕ) (body : List ℕ) (sized : IsSized text
     go (first ∷ ls) e some = names_first form text first ls sized (is_text first ls e) (bad first ls e)
 
   -- the value lines are read
-  pub values_read : (first : List ℕ) (ls : List (List ℕ)) → parts 10 body ≡ first ∷ ls → (order : List Column) → Heads form (parts 32 first) (take (length (columns_of form)) order) → (r : Result Sheet Fault) → MatchResult r (λ s. (s.form ≡ form) × (s.order ≡ order) × (lines_of s ≡ ls) × FirstFit (take (length (columns_of form)) order) ls (length ls) × Allowed form (length ls)) (λ fault. LinesMiss form (take (length (columns_of form)) order) ls fault) → ReadsText form text r
-  values_read first ls e order heads (Ok s) h = (
+  pub values_read : (first : List ℕ) (ls : List (List ℕ)) → parts 10 body ≡ first ∷ ls → (columns : List Column) → Heads form (parts 32 first) (take (length (columns_of form)) columns) → (r : Result Sheet Fault) → MatchResult r (λ s. (s.form ≡ form) × (s.columns ≡ columns) × (lines_of s ≡ ls) × FirstFit (take (length (columns_of form)) columns) ls (length ls) × AllowedCount form (length ls)) (λ fault. LinesMiss form (take (length (columns_of form)) columns) ls fault) → ReadsText form text r
+  values_read first ls e columns heads (Ok s) h = (
     seen form first ls,
-    take (length (columns_of form)) order,
-    sheet_from form text first ls sized (is_text first ls e) (take (length (columns_of form)) order) heads h.3 h.4,
-    (h.0, ap (λ (f : Form). take (length (columns_of f)) s.order) h.0 ∙ ap (take (length (columns_of form))) h.1, ap (map (parts 32)) h.2),
+    take (length (columns_of form)) columns,
+    sheet_from form text first ls sized (is_text first ls e) (take (length (columns_of form)) columns) heads h.3 h.4,
+    (h.0, ap (λ (f : Form). take (length (columns_of f)) s.columns) h.0 ∙ ap (take (length (columns_of form))) h.1, ap (map (parts 32)) h.2),
   )
-  values_read first ls e order heads (Err fault) h = lines_first form text first ls sized (is_text first ls e) (take (length (columns_of form)) order) heads fault h
+  values_read first ls e columns heads (Err fault) h = lines_first form text first ls sized (is_text first ls e) (take (length (columns_of form)) columns) heads fault h
 
 -- what is a sheet is read
-pub sheet_is_read : (form : Form) (text : List ℕ) (r : Result Sheet Fault) → ReadsText form text r → (lines : List (List (List ℕ))) (order : List Column) → IsSheet form text lines order → IsOk r
-sheet_is_read form text (Ok s) h lines order sheet = refl
-sheet_is_read form text (Err fault) h lines order sheet = absurd (sheet_misses_none form text lines order sheet fault h.0)
+pub sheet_is_read : (form : Form) (text : List ℕ) (r : Result Sheet Fault) → ReadsText form text r → (lines : List (List (List ℕ))) (columns : List Column) → IsSheet form text lines columns → IsOk r
+sheet_is_read form text (Ok s) h lines columns sheet = refl
+sheet_is_read form text (Err fault) h lines columns sheet = absurd (sheet_misses_none form text lines columns sheet fault h.0)

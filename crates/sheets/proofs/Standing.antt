@@ -20,44 +20,44 @@ use Rattle.sheets.proofs.Columns.{one_column}
 use Rattle.sheets.proofs.Parts.{get_or-map}
 
 -- a column of a list stands in it where it was looked for
-module _ (order : List Column) (c : Column) (there : Contains order c) where
+module _ (columns : List Column) (c : Column) (there : Contains columns c) where
   abbrev same : Column → Bool
   same d = bytes_eq (name_of d) (name_of c)
 
   abbrev at : ℕ
-  at = position_or_len same order
+  at = position_or_len same columns
 
-  found : at < length order
+  found : at < length columns
   found = elim (cases_lt there.0 at) [
     | inl l ↦
-        let no = fails_before_first same order there.0 c l in
-        absurd (false≢true (sym no ∙ (bytes_eq-Decides (name_of (get_or order there.0 c)) (name_of c)).1 (ap name_of there.2)))
+        let no = fails_before_first same columns there.0 c l in
+        absurd (false≢true (sym no ∙ (bytes_eq-Decides (name_of (get_or columns there.0 c)) (name_of c)).1 (ap name_of there.2)))
     | inr m ↦ omega (arith, there.1)
   ]
 
-  is_column : get_or order at c ≡ c
-  is_column = one_column (get_or order at c) c ((bytes_eq-Decides (name_of (get_or order at c)) (name_of c)).0 (passes_at_first same order c found))
+  is_column : get_or columns at c ≡ c
+  is_column = one_column (get_or columns at c) c ((bytes_eq-Decides (name_of (get_or columns at c)) (name_of c)).0 (passes_at_first same columns c found))
 
-module _ (form : Form) (text : List ℕ) (lines : List (List (List ℕ))) (order : List Column) (sheet : IsSheet form text lines order) where
+module _ (form : Form) (text : List ℕ) (lines : List (List (List ℕ))) (columns : List Column) (sheet : IsSheet form text lines columns) where
   -- under each column stands its name
-  heading : (c : Column) (there : Contains order c) → field lines 1 (at order c there + 1) ≡ name_of c
+  heading : (c : Column) (there : Contains columns c) → field lines 1 (at columns c there + 1) ≡ name_of c
   heading c there =
-      let j = at order c there in
-      let inside = found order c there in
+      let j = at columns c there in
+      let inside = found columns c there in
       nth_next (nth lines 1 []) j [] ∙ ap (λ l. get_or l j []) sheet.heads.named
-      ∙ get_or_default (map name_of order) j [] (name_of c) (omega (arith, length-map order name_of))
-      ∙ get_or-map name_of order j c ∙ ap name_of (is_column order c there)
+      ∙ get_or_default (map name_of columns) j [] (name_of c) (omega (arith, length-map columns name_of))
+      ∙ get_or-map name_of columns j c ∙ ap name_of (is_column columns c there)
 
-  full : (s : Sheet) → Shows form lines order s → IsFull s
+  full : (s : Sheet) → Shows form lines columns s → IsFull s
   full s shows k c low high of_form =
-      let there = All-contains (Contains order) (columns_of form) c sheet.heads.each (subst (λ f. Contains (columns_of f) c) shows.0 of_form) in
-      let j = at order c there in
-      let left : left_of s c ≡ j = ap (position_or_len (same order c there)) shows.1 in
+      let there = All-contains (Contains columns) (columns_of form) c sheet.heads.each (subst (λ f. Contains (columns_of f) c) shows.0 of_form) in
+      let j = at columns c there in
+      let left : left_of s c ≡ j = ap (position_or_len (same columns c there)) shows.1 in
       let line : nth (values_of s) k [] ≡ nth lines (k + 1) [] =
       ap (λ v. nth v k []) shows.2 ∙ nth_at (drop 1 lines) k [] low ∙ get_or-drop 1 lines (k - 1) [] ∙ ap (λ i. get_or lines i []) (let e : 1 + (k - 1) ≡ k = omega arith in e) ∙ sym (nth_next lines k []) in
       let value : IsValueLine lines (k + 1) = (omega arith, omega (arith, high, ap length shows.2, length-drop 1 lines)) in
-      let wide : length (nth lines (k + 1) []) ≡ length order = sheet.counts (k + 1) value ∙ ap length sheet.heads.named ∙ length-map order name_of in
-      let inside = found order c there in (
+      let wide : length (nth lines (k + 1) []) ≡ length columns = sheet.counts (k + 1) value ∙ ap length sheet.heads.named ∙ length-map columns name_of in
+      let inside = found columns c there in (
         (low, high, omega (arith, left, ap length line, wide, inside)),
         subst (IsOfKind (kind_of c)) (sym (ap (λ i. nth (nth (values_of s) k []) (i + 1) []) left ∙ ap (λ l. nth l (j + 1) []) line))
             (sheet.kinds (k + 1) (j + 1) value (omega arith) (omega (arith, wide, inside)) c (heading c there)),

@@ -6,7 +6,7 @@ use Rattle.sheets.specs.declared.form.Column.{Column}
 use Rattle.sheets.specs.declared.form.Column.TheVariants.{Processors}
 use Rattle.sheets.specs.declared.form.Form.{Form}
 use Rattle.sheets.specs.Forms.{kind_of, most_of, place}
-use Rattle.sheets.specs.Reading.{IsOfKind, Allowed}
+use Rattle.sheets.specs.Reading.{IsOfKind, AllowedCount}
 use Rattle.sheets.specs.Texts.{parts}
 
 -- the field at a place, counted from 0, has the form of its column's kind
@@ -31,4 +31,4 @@ FirstFit columns lines n = (i : ℕ) → i < n → Fits columns (parts 32 (slice
 abbrev pub LinesMiss : Form → List Column → List (List ℕ) → Fault → Type 0
 LinesMiss form columns lines fault =
     ((i : ℕ) × (i < length lines) × FirstFit columns lines i × Misses form columns (i + 2) (parts 32 (slice_index_or lines i [])) fault)
-    ⊎ (FirstFit columns lines (length lines) × (Allowed form (length lines) → ⊥) × (fault ≡ BadLineCount (place form (if length lines == 0 then 1 else most_of form + 2) 0)))
+    ⊎ (FirstFit columns lines (length lines) × (AllowedCount form (length lines) → ⊥) × (fault ≡ BadLineCount (place form (if length lines == 0 then 1 else most_of form + 2) 0)))

@@ -22,8 +22,8 @@ abbrev pub name_place : Sheet → ℕ → Place
 name_place s k = place s.form (k + 1) (left_of s Task + 1)
 
 -- question 6: the name of the k-th value line stands in no earlier one
-abbrev pub IsNew : Sheet → ℕ → Type 0
-IsNew s k = (i : ℕ) → 1 ≤ i → i < k → task_of s i ≡ task_of s k → ⊥
+abbrev pub IsNewName : Sheet → ℕ → Type 0
+IsNewName s k = (i : ℕ) → 1 ≤ i → i < k → task_of s i ≡ task_of s k → ⊥
 
 -- the k-th value line has the name
 abbrev pub HasTaskAt : Sheet → List ℕ → ℕ → Type 0
@@ -35,7 +35,7 @@ HasTask s name = (k : ℕ) × HasTaskAt s name k
 
 -- question 7: the name of the k-th value line of the answer stands on the tasks sheet, and in no earlier line of the answer
 abbrev pub Answers : Sheet → Sheet → ℕ → Type 0
-Answers tasks answer k = HasTask tasks (task_of answer k) × IsNew answer k
+Answers tasks answer k = HasTask tasks (task_of answer k) × IsNewName answer k
 
 -- question 8: the task of the k-th value line stands on the answer sheet
 abbrev pub IsAnswered : Sheet → Sheet → ℕ → Type 0
@@ -51,9 +51,9 @@ FirstLine question n k = (1 ≤ k) × (k ≤ n) × (question k → ⊥) × ((i :
 
 -- the fault is the first: its question is missed at its place, the same question in no line above, and no earlier question
 abbrev pub PairMisses : Sheet → Sheet → Fault → Type 0
-PairMisses tasks answer (RepeatedTask p) = (k : ℕ) × (p ≡ name_place tasks k) × FirstLine (IsNew tasks) (count_of tasks) k
-PairMisses tasks answer (BadAnswer p) = EachLine (IsNew tasks) (count_of tasks) × ((k : ℕ) × (p ≡ name_place answer k) × FirstLine (Answers tasks answer) (count_of answer) k)
-PairMisses tasks answer (NoAnswer p) = EachLine (IsNew tasks) (count_of tasks) × EachLine (Answers tasks answer) (count_of answer) × ((k : ℕ) × (p ≡ place tasks.form (k + 1) 0) × FirstLine (IsAnswered tasks answer) (count_of tasks) k)
+PairMisses tasks answer (RepeatedTask p) = (k : ℕ) × (p ≡ name_place tasks k) × FirstLine (IsNewName tasks) (count_of tasks) k
+PairMisses tasks answer (BadAnswer p) = EachLine (IsNewName tasks) (count_of tasks) × ((k : ℕ) × (p ≡ name_place answer k) × FirstLine (Answers tasks answer) (count_of answer) k)
+PairMisses tasks answer (NoAnswer p) = EachLine (IsNewName tasks) (count_of tasks) × EachLine (Answers tasks answer) (count_of answer) × ((k : ℕ) × (p ≡ place tasks.form (k + 1) 0) × FirstLine (IsAnswered tasks answer) (count_of tasks) k)
 PairMisses tasks answer fault = ⊥
 
 -- a list has in its k-th place the row that the k-th value line of the answer names; 0 past the last one
@@ -66,7 +66,7 @@ pub record RowsNamed (tasks answer : Sheet) (rows : List ℕ) : Type 0 where
 abbrev pub Pairs : Sheet → Sheet → Result (List ℕ) Fault → Type 0
 Pairs tasks answer r =
     MatchResult r
-    (λ rows. EachLine (IsNew tasks) (count_of tasks) × EachLine (Answers tasks answer) (count_of answer) × EachLine (IsAnswered tasks answer) (count_of tasks) × RowsNamed tasks answer rows)
+    (λ rows. EachLine (IsNewName tasks) (count_of tasks) × EachLine (Answers tasks answer) (count_of answer) × EachLine (IsAnswered tasks answer) (count_of tasks) × RowsNamed tasks answer rows)
     (PairMisses tasks answer)
 
 -- the rows that the answer names are all rows of the tasks sheet, each once: they are as many, and no two are the same

@@ -17,14 +17,14 @@ abbrev pub IsSized : List ℕ → Type 0
 IsSized text = (1 ≤ length text) × (length text ≤ 4096) × (nth text (length text) 0 ≡ 10)
 
 -- Line 1 has the names of these columns, from left to right: they are as many as the form's, and each of the form's is among them, so each once.
-pub record Heads (form : Form) (names : List (List ℕ)) (order : List Column) : Type 0 where
-  pub named : names ≡ map name_of order
-  pub size : length order ≡ length (columns_of form)
-  pub each : All (Contains order) (columns_of form)
+pub record Heads (form : Form) (names : List (List ℕ)) (columns : List Column) : Type 0 where
+  pub named : names ≡ map name_of columns
+  pub size : length columns ≡ length (columns_of form)
+  pub each : All (Contains columns) (columns_of form)
 
 -- question 2: line 1 has the names of the form's columns, each once, in some order
 abbrev pub HasNames : Form → List (List ℕ) → Type 0
-HasNames form names = (order : List Column) × Heads form names order
+HasNames form names = (columns : List Column) × Heads form names columns
 
 -- a field has the form of its kind
 abbrev pub IsOfKind : Kind → List ℕ → Type 0
@@ -32,8 +32,8 @@ IsOfKind Name field = IsName field
 IsOfKind Number field = (n : ℕ) × Writes field n
 
 -- question 5: a sheet of a form may have so many value lines
-abbrev pub Allowed : Form → ℕ → Type 0
-Allowed form n = (1 ≤ n) × (n ≤ most_of form)
+abbrev pub AllowedCount : Form → ℕ → Type 0
+AllowedCount form n = (1 ≤ n) × (n ≤ most_of form)
 
 -- line k is a value line: any but line 1 is
 abbrev pub IsValueLine : List (List (List ℕ)) → ℕ → Type 0
@@ -60,7 +60,7 @@ abbrev pub MissedIn : Form → List (List (List ℕ)) → Fault → Type 0
 MissedIn form lines (BadNames p) = (p ≡ place form 1 0) × (HasNames form (nth lines 1 []) → ⊥)
 MissedIn form lines (BadFieldCount p) = (k : ℕ) × (p ≡ place form k 0) × IsValueLine lines k × (SameCount lines k → ⊥)
 MissedIn form lines (BadField p) = (k j : ℕ) × (p ≡ place form k j) × IsValueLine lines k × (1 ≤ j) × (j ≤ length (nth lines k [])) × (Conforms lines k j → ⊥)
-MissedIn form lines (BadLineCount p) = (p ≡ place form (line_at_fault form lines) 0) × (Allowed form (length lines - 1) → ⊥)
+MissedIn form lines (BadLineCount p) = (p ≡ place form (line_at_fault form lines) 0) × (AllowedCount form (length lines - 1) → ⊥)
 MissedIn form lines fault = ⊥
 
 -- the fault's question, one of 1 to 5, is missed at the fault's place
@@ -84,10 +84,10 @@ abbrev pub IsFirst : Form → List ℕ → Fault → Type 0
 IsFirst form text fault = Missed form text fault × ((other : Fault) → Before other fault → Missed form text other → ⊥)
 
 -- A text is a sheet of a form, of these lines and with its columns in this order: no question is missed.
-pub record IsSheet (form : Form) (text : List ℕ) (lines : List (List (List ℕ))) (order : List Column) : Type 0 where
+pub record IsSheet (form : Form) (text : List ℕ) (lines : List (List (List ℕ))) (columns : List Column) : Type 0 where
   pub sized : IsSized text
   pub cut : IsText text lines
-  pub heads : Heads form (nth lines 1 []) order
+  pub heads : Heads form (nth lines 1 []) columns
   pub counts : (k : ℕ) → IsValueLine lines k → SameCount lines k
   pub kinds : (k j : ℕ) → IsValueLine lines k → 1 ≤ j → j ≤ length (nth lines k []) → Conforms lines k j
-  pub allowed : Allowed form (length lines - 1)
+  pub allowed : AllowedCount form (length lines - 1)

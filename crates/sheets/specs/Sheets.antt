@@ -12,8 +12,8 @@ use Rattle.sheets.specs.Texts.{parts}
 use Rattle.sheets.specs.Reading.{IsOfKind, IsSheet, IsFirst}
 
 -- the columns of a sheet, from left to right
-abbrev pub order_of : Sheet → List Column
-order_of s = take (length (columns_of s.form)) s.order
+abbrev pub columns_in : Sheet → List Column
+columns_in s = take (length (columns_of s.form)) s.columns
 
 -- the value lines of a sheet, as parts of the text
 abbrev pub lines_of : Sheet → List (List ℕ)
@@ -25,7 +25,7 @@ values_of s = map (parts 32) (lines_of s)
 
 -- how many columns stand to the left of one; all of them where it is none of the sheet's
 abbrev pub left_of : Sheet → Column → ℕ
-left_of s c = position_or_len (λ d. bytes_eq (name_of d) (name_of c)) (order_of s)
+left_of s c = position_or_len (λ d. bytes_eq (name_of d) (name_of c)) (columns_in s)
 
 -- the k-th value line has a field under a column
 abbrev pub HasField : Sheet → ℕ → Column → Type 0
@@ -41,10 +41,10 @@ IsFull s = (k : ℕ) (c : Column) → 1 ≤ k → k ≤ length (values_of s) →
 
 -- the sheet has this form, its columns in this order, and all of these lines but line 1 as its value lines
 abbrev pub Shows : Form → List (List (List ℕ)) → List Column → Sheet → Type 0
-Shows form lines order s = (s.form ≡ form) × (order_of s ≡ order) × (values_of s ≡ drop 1 lines)
+Shows form lines columns s = (s.form ≡ form) × (columns_in s ≡ columns) × (values_of s ≡ drop 1 lines)
 
 -- reading a text: the sheet that it is, or the first fault
 abbrev pub ReadsText : Form → List ℕ → Result Sheet Fault → Type 0
 ReadsText form text r =
-    MatchResult r (λ s. (lines : List (List (List ℕ))) × (order : List Column) × IsSheet form text lines order × Shows form lines order s)
+    MatchResult r (λ s. (lines : List (List (List ℕ))) × (columns : List Column) × IsSheet form text lines columns × Shows form lines columns s)
     (λ fault. IsFirst form text fault)

@@ -19,6 +19,6 @@ pub record IsText (text : List ℕ) (lines : List (List (List ℕ))) : Type 0 wh
   pub whole : text ≡ text_of lines
   pub each : All (λ fields. (1 ≤ length fields) × All IsField fields) lines
 
--- what stands before, between and behind the bytes mark of a text
+-- what stands before, between and behind the separators of a text
 abbrev pub parts : ℕ → List ℕ → List (List ℕ)
-parts mark text = slice_split (λ b. b == mark) text
+parts separator text = slice_split (λ b. b == separator) text

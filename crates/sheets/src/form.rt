@@ -51,8 +51,8 @@ const DEADLINE: &[u8] = b"deadline";
 
 const ESTIMATE: &[u8] = b"estimate";
 
-/// Room for the columns of a form.
-pub(crate) const ROOM: usize = 8;
+/// The most columns that a form may have.
+pub(crate) const MOST_COLUMNS: usize = 8;
 
 impl Column {
     /// The column of this name.

@@ -5,7 +5,7 @@ ghost use Rattle.sheets.specs.Readers.{left};
 ghost use Rattle.sheets.specs.Texts.{parts};
 ghost use Rattle.sheets.specs.Reading.{Heads, HasNames};
 
-use crate::form::{Column, Form, ROOM};
+use crate::form::{Column, Form, MOST_COLUMNS};
 use crate::reader::Reader;
 
 // Whether the column is in the list.
@@ -16,7 +16,7 @@ fn has(given: &[Column], column: Column) -> bool
 }
 
 // Whether the form's columns are all of the list, and each is there.
-fn is_order(form: Form, given: &[Column]) -> bool
+fn are_columns(form: Form, given: &[Column]) -> bool
     ensures { IsTrue result ↔ ((length given.now ≡ length (columns_of form)) × All (Contains given.now) (columns_of form)) }
 {
     let columns = form.columns();
@@ -24,12 +24,12 @@ fn is_order(form: Form, given: &[Column]) -> bool
 }
 
 /// The columns from left to right, if they are the form's, each once; what stands past them is a filler.
-pub(crate) fn order_named(form: Form, names: &[u8]) -> Option<[Column; ROOM]>
+pub(crate) fn columns_named(form: Form, names: &[u8]) -> Option<[Column; MOST_COLUMNS]>
     requires { length names.now ≤ 4096 }
-    ensures { MatchOption result (HasNames form (parts 32 names.now) → ⊥) (λ order. Heads form (parts 32 names.now) (take (length (columns_of form)) order)) }
+    ensures { MatchOption result (HasNames form (parts 32 names.now) → ⊥) (λ columns. Heads form (parts 32 names.now) (take (length (columns_of form)) columns)) }
 {
     let columns = form.columns();
-    let mut order = [Column::Task; ROOM];
+    let mut given = [Column::Task; MOST_COLUMNS];
     let mut count = 0;
     let mut fields = Reader::new(names, b' ');
     while let Some(field) = fields.next() {
@@ -37,17 +37,18 @@ pub(crate) fn order_named(form: Form, names: &[u8]) -> Option<[Column; ROOM]>
         if count == columns.len() {
             return None;
         }
-        order[count] = column;
+        given[count] = column;
         count += 1;
     }
-    is_order(form, &order[..count]).then_some(order)
+    are_columns(form, &given[..count]).then_some(given)
 }
 
 /// The columns that the next line names, if they are the form's, each once.
-pub(crate) fn next_order(form: Form, lines: &mut Reader<'_>) -> Option<[Column; ROOM]>
-    ensures order { MatchOption result ((names : _) (rest : _) → left lines.old ≡ names ∷ rest → HasNames form (parts 32 names) → ⊥) (λ order. (names : _) × (left lines.old ≡ names ∷ left lines.new) × Heads form (parts 32 names) (take (length (columns_of form)) order)) }
+pub(crate) fn next_columns(form: Form, lines: &mut Reader<'_>) -> Option<[Column; MOST_COLUMNS]>
+    ensures columns { MatchOption result ((names : _) (rest : _) → left lines.old ≡ names ∷ rest → HasNames form (parts 32 names) → ⊥)
+        (λ columns. (names : _) × (left lines.old ≡ names ∷ left lines.new) × Heads form (parts 32 names) (take (length (columns_of form)) columns)) }
     ensures number { IfSome result (λ _. lines.new.number ≡ lines.old.number + 1) }
 {
     let names = lines.next()?;
-    order_named(form, names.bytes)
+    columns_named(form, names.bytes)
 }

@@ -31,7 +31,9 @@ fn count_fields(line: &[u8]) -> usize
 fn first_misfit(columns: &[Column], line: &[u8]) -> Option<u32>
     requires small { length line.now ≤ 4096 }
     requires full { length (parts 32 line.now) ≡ length columns.now }
-    ensures { MatchOption result ((j : _) → j < length columns.now → FitsAt columns.now (parts 32 line.now) j) (λ field. (j : _) × (field ≡ j + 1) × (j < length columns.now) × ((i : _) → i < j → FitsAt columns.now (parts 32 line.now) i) × (FitsAt columns.now (parts 32 line.now) j → ⊥)) }
+    ensures { MatchOption result ((j : _) → j < length columns.now → FitsAt columns.now (parts 32 line.now) j)
+        (λ field. (j : _) × (field ≡ j + 1) × (j < length columns.now)
+        × ((i : _) → i < j → FitsAt columns.now (parts 32 line.now) i) × (FitsAt columns.now (parts 32 line.now) j → ⊥)) }
 {
     let mut fields = Reader::new(line, b' ');
     for column in columns {

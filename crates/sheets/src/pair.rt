@@ -1,14 +1,14 @@
 // The pairing of a tasks sheet and an answer sheet.
 ghost use Rattle.std.specs.Prelude.{◌≡◌, ◌+◌, IfOk, MatchResult};
 ghost use Rattle.sheets.specs.Forms.{place};
-ghost use Rattle.sheets.specs.Pairs.{count_of, name_place, IsNew, Answers, IsAnswered, EachLine, FirstLine, RowsNamed, EachRowOnce, Pairs};
+ghost use Rattle.sheets.specs.Pairs.{count_of, name_place, IsNewName, Answers, IsAnswered, EachLine, FirstLine, RowsNamed, EachRowOnce, Pairs};
 
 use crate::sheet::Sheet;
 use table::fault::Fault;
 
 // Asks whether each name stands on the sheet only once.
 fn ask_names(tasks: &Sheet<'_>) -> Result<(), Fault>
-    ensures { MatchResult result (λ _. EachLine (IsNew tasks.now) (count_of tasks.now)) (λ fault. (k : _) × (fault ≡ Fault.RepeatedTask (name_place tasks.now k)) × FirstLine (IsNew tasks.now) (count_of tasks.now) k) }
+    ensures { MatchResult result (λ _. EachLine (IsNewName tasks.now) (count_of tasks.now)) (λ fault. (k : _) × (fault ≡ Fault.RepeatedTask (name_place tasks.now k)) × FirstLine (IsNewName tasks.now) (count_of tasks.now) k) }
 {
     for i in 0..tasks.len() {
         let name = tasks.name(i + 1);
@@ -21,7 +21,9 @@ fn ask_names(tasks: &Sheet<'_>) -> Result<(), Fault>
 
 // The rows that the answer names, line by line.
 fn rows_named(tasks: &Sheet<'_>, answer: &Sheet<'_>) -> Result<[usize; 32], Fault>
-    ensures { MatchResult result (λ rows. EachLine (Answers tasks.now answer.now) (count_of answer.now) × RowsNamed tasks.now answer.now rows) (λ fault. (k : _) × (fault ≡ Fault.BadAnswer (name_place answer.now k)) × FirstLine (Answers tasks.now answer.now) (count_of answer.now) k) }
+    ensures { MatchResult result
+        (λ rows. EachLine (Answers tasks.now answer.now) (count_of answer.now) × RowsNamed tasks.now answer.now rows)
+        (λ fault. (k : _) × (fault ≡ Fault.BadAnswer (name_place answer.now k)) × FirstLine (Answers tasks.now answer.now) (count_of answer.now) k) }
 {
     let mut rows = [0; 32];
     for i in 0..answer.len() {

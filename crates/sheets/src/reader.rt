@@ -5,16 +5,16 @@ mod next;
 
 /// A part of the text, with its number from 1.
 #[derive(Clone, Copy)]
-pub struct Part<'a> {
+pub(crate) struct Part<'a> {
     pub bytes: &'a [u8],
     pub number: u32,
 }
 
 /// It holds the text, and the place where the next part begins.
 #[derive(Drop)]
-pub struct Reader<'a> {
+pub(crate) struct Reader<'a> {
     text: &'a [u8],
-    mark: u8,
+    separator: u8,
     at: usize,
     number: u32,
     ghost small: { length text.now ≤ 4096 },

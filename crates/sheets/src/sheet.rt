@@ -4,14 +4,14 @@ ghost use Rattle.std.specs.Prelude.{◌≤◌, length, All};
 mod fields;
 mod read;
 
-use crate::form::{Column, Form, ROOM};
+use crate::form::{Column, Form, MOST_COLUMNS};
 
 /// A sheet that was read.
 #[derive(Drop)]
 pub struct Sheet<'a> {
     form: Form,
     // From left to right; past the last column a filler.
-    order: [Column; ROOM],
+    columns: [Column; MOST_COLUMNS],
     lines: [&'a [u8]; 32],
     len: usize,
     ghost few: { len ≤ 32 },

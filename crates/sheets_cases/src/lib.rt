@@ -292,7 +292,11 @@ mod tests {
         no_sheet(&rt, Form::Tasks, "task wcet period deadline\n", 5, 1, 0)?;
         no_sheet(&rt, Form::Board, "processors overhead test\n", 5, 1, 0)?;
         let two = "processors overhead test\n2 0 rta\n2 0 rta\n";
-        no_sheet(&rt, Form::Board, two, 5, 3, 0)?;
+        no_sheet(&rt, Form::Board, two, 5, 3, 0)
+    }
+
+    #[test]
+    fn reads_the_most_lines(rt: HostRuntime) -> Result<(), Fail> {
         let text = long_answer(rt.alloc(), 32, "")?;
         let sheet = Sheet::read(Form::Answer, &text)?;
         assert_eq!(rt; sheet.len(), 32);
@@ -305,6 +309,11 @@ mod tests {
                 field: 2
             }
         );
+        Ok(())
+    }
+
+    #[test]
+    fn asks_for_no_more_lines(rt: HostRuntime) -> Result<(), Fail> {
         let many = long_answer(rt.alloc(), 33, "")?;
         let line_34 = Place {
             sheet: 3,
@@ -325,7 +334,11 @@ mod tests {
             5,
             Layer::Sheet,
             line_34,
-        )?;
+        )
+    }
+
+    #[test]
+    fn asks_each_line_before_their_number(rt: HostRuntime) -> Result<(), Fail> {
         let bad = long_answer(rt.alloc(), 32, "a 01\n")?;
         let field_2 = Place {
             sheet: 3,

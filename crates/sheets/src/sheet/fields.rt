@@ -2,7 +2,7 @@
 ghost use Rattle.std.specs.Prelude.{◌≡◌, ◌+◌, ◌<◌, ◌≤◌, [], length, position, bytes_eq, IfSome, MatchOption};
 ghost use Rattle.table.specs.Places.{nth};
 ghost use Rattle.sheets.specs.Forms.{name_of, place};
-ghost use Rattle.sheets.specs.Sheets.{order_of, lines_of, values_of, left_of, HasField, field_of};
+ghost use Rattle.sheets.specs.Sheets.{columns_in, lines_of, values_of, left_of, HasField, field_of};
 ghost use Rattle.sheets.specs.Pairs.{task_of};
 
 use super::Sheet;
@@ -29,9 +29,9 @@ impl<'a> Sheet<'a> {
 
     // The columns, from left to right.
     fn columns(&self) -> &[Column]
-        ensures { result.now ≡ order_of self.now }
+        ensures { result.now ≡ columns_in self.now }
     {
-        &self.order[..self.form.columns().len()]
+        &self.columns[..self.form.columns().len()]
     }
 
     // How many columns stand left of one.

@@ -3,14 +3,14 @@ ghost use Rattle.std.specs.Prelude.{◌≡◌, ◌≤◌, ◌<◌, [], ◌∷◌
 ghost use Rattle.table.specs.declared.fault.Fault.{Fault};
 ghost use Rattle.sheets.specs.Forms.{columns_of};
 ghost use Rattle.sheets.specs.Readers.{left};
-ghost use Rattle.sheets.specs.Reading.{Allowed, IsSized, IsFirst, IsSheet};
+ghost use Rattle.sheets.specs.Reading.{AllowedCount, IsSized, IsFirst, IsSheet};
 ghost use Rattle.sheets.specs.Lines.{FirstFit, LinesMiss};
 ghost use Rattle.sheets.specs.Texts.{IsText};
 ghost use Rattle.sheets.specs.Sheets.{lines_of, IsFull, ReadsText};
 
 use super::Sheet;
-use crate::form::{Column, Form, ROOM};
-use crate::heading::next_order;
+use crate::form::{Column, Form, MOST_COLUMNS};
+use crate::heading::next_columns;
 use crate::line::ask_line;
 use crate::reader::Reader;
 use table::fault::Fault;
@@ -21,13 +21,17 @@ const LONGEST: usize = 4096;
 // The value lines: line by line what each is asked, then how many they are.
 fn read_values<'a>(
     form: Form,
-    order: [Column; ROOM],
+    given: [Column; MOST_COLUMNS],
     mut lines: Reader<'a>,
 ) -> Result<Sheet<'a>, Fault>
     requires { lines.number ≡ 1 }
-    ensures { MatchResult result (λ s. (s.form ≡ form) × (s.order ≡ order) × (lines_of s ≡ left lines.entry) × FirstFit (take (length (columns_of form)) order) (left lines.entry) (length (left lines.entry)) × Allowed form (length (left lines.entry))) (λ fault. LinesMiss form (take (length (columns_of form)) order) (left lines.entry) fault) }
+    ensures { MatchResult result
+        (λ s. (s.form ≡ form) × (s.columns ≡ given) × (lines_of s ≡ left lines.entry)
+        × FirstFit (take (length (columns_of form)) given) (left lines.entry) (length (left lines.entry))
+        × AllowedCount form (length (left lines.entry)))
+        (λ fault. LinesMiss form (take (length (columns_of form)) given) (left lines.entry) fault) }
 {
-    let columns = &order[..form.columns().len()];
+    let columns = &given[..form.columns().len()];
     let mut kept: [&'a [u8]; 32] = [&[]; 32];
     let mut len = 0;
     while let Some(line) = lines.next() {
@@ -45,7 +49,7 @@ fn read_values<'a>(
     }
     Ok(Sheet {
         form,
-        order,
+        columns: given,
         lines: kept,
         len,
     })
@@ -71,8 +75,8 @@ fn read_text<'a>(form: Form, text: &'a [u8]) -> Result<Sheet<'a>, Fault>
         return Err(Fault::BadText(form.place(0, 0)));
     };
     let mut lines = Reader::new(body, b'\n');
-    match next_order(form, &mut lines) {
-        Some(order) => read_values(form, order, lines),
+    match next_columns(form, &mut lines) {
+        Some(columns) => read_values(form, columns, lines),
         None => Err(Fault::BadNames(form.place(1, 0))),
     }
 }
@@ -83,7 +87,7 @@ impl<'a> Sheet<'a> {
         ensures read { ReadsText form text.now result }
         ensures full { IfOk result IsFull }
         // What is a sheet is read, so a fault is given only for what is none.
-        ensures whole { (lines : List (List (List ℕ))) (order : _) → IsSheet form text.now lines order → IsOk result }
+        ensures whole { (lines : List (List (List ℕ))) (columns : _) → IsSheet form text.now lines columns → IsOk result }
         // A text is of no other lines.
         ensures one { (lines others : List (List (List ℕ))) → IsText text.now lines → IsText text.now others → lines ≡ others }
         // It has no other first fault.

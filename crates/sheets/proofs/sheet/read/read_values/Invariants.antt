@@ -10,7 +10,7 @@ invariant-loop-line l = record {
   rest : drop l.len (left l.fn.lines) ≡ left l.lines;
   within : l.len ≤ length (left l.fn.lines);
   counted : l.lines.number ≡ l.len + 1;
-  fit : FirstFit (take (length (columns_of l.fn.form)) l.fn.order) (left l.fn.lines) l.len;
+  fit : FirstFit (take (length (columns_of l.fn.form)) l.fn.given) (left l.fn.lines) l.len;
   long : length l.kept ≡ 32;
   kept : l.len ≤ 32 → map (λ line. line.now) (take l.len l.kept) ≡ take l.len (left l.fn.lines);
   short : All (λ line. length line.now ≤ 4096) l.kept;

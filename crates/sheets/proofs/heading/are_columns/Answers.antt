@@ -2,7 +2,7 @@ use Rattle.std.proofs.Common.{rules, tests, sym, ap, subst, ◌∙◌, length}
 use Rattle.std.specs.List.{Contains, All}
 use Rattle.std.proofs.lemmas.Iterator.{cases_from_all, YieldsList-from_slice}
 use Rattle.sheets.proofs.Columns.{each_decides}
-use Rattle.sheets.proofs.heading.is_order.Goals as goal
+use Rattle.sheets.proofs.heading.are_columns.Goals as goal
 
 pub returns-then-given-columns : goal.returns-then-given-columns
 returns-then-given-columns c =
