@@ -15,26 +15,26 @@ use Rattle.sheets.specs.Fields.{value}
 use Rattle.sheets.specs.Forms.{name_of, place}
 use Rattle.sheets.specs.Sheets.{columns_in, values_of, left_of, field_of, ReadsText}
 use Rattle.sheets.specs.Pairs.{count_of, task_of, IsNewName, HasTaskAt, HasTask, Answers, IsAnswered, EachLine, FirstLine, PairMisses}
-use Rattle.sheets.proofs.Columns.{one_order}
+use Rattle.sheets.proofs.Columns.{same_columns}
 use Rattle.sheets.proofs.Cuts.{one_text}
 use Rattle.bounds.specs.Named.{IsTestName}
 use Rattle.marking.specs.Questions.{number_under, Suits, HasTest, TestMisses, HasRow, RowMisses, HasEstimate, EstimateMisses, IsPaired, SheetsMiss, by_test, by_pair, by_row, by_estimate}
 
--- Two sheets have one form, one order of columns and the same values.
+-- Two sheets have one form, the same columns and the same values.
 pub record Alike (s t : Sheet) : Type 0 where
   pub form : s.form ≡ t.form
-  pub order : columns_in s ≡ columns_in t
+  pub columns : columns_in s ≡ columns_in t
   pub values : values_of s ≡ values_of t
 
 pub back : (s t : Sheet) → Alike s t → Alike t s
-back s t like = record { form = sym like.form; order = sym like.order; values = sym like.values }
+back s t like = record { form = sym like.form; columns = sym like.columns; values = sym like.values }
 
 -- a text is read in one way
 pub read_alike : (form : Form) (text : List ℕ) (s t : Sheet) → ReadsText form text (Ok s) → ReadsText form text (Ok t) → Alike s t
 read_alike form text s t a b =
     let lines = one_text text a.0 b.0 a.2.cut b.2.cut in
-    let order = one_order a.1 b.1 (sym a.2.heads.named ∙ ap (λ (ls : List (List (List ℕ))). nth ls 1 []) lines ∙ b.2.heads.named) in
-    record { form = a.3.0 ∙ sym b.3.0; order = a.3.1 ∙ order ∙ sym b.3.1; values = a.3.2 ∙ ap (drop 1) lines ∙ sym b.3.2 }
+    let columns = same_columns a.1 b.1 (sym a.2.heads.named ∙ ap (λ (ls : List (List (List ℕ))). nth ls 1 []) lines ∙ b.2.heads.named) in
+    record { form = a.3.0 ∙ sym b.3.0; columns = a.3.1 ∙ columns ∙ sym b.3.1; values = a.3.2 ∙ ap (drop 1) lines ∙ sym b.3.2 }
 
 -- questions that say the same, of as many lines
 module _ (p q : ℕ → Type 0) (to : (k : ℕ) → p k → q k) (n m : ℕ) (many : n ≡ m) where
@@ -46,7 +46,7 @@ module _ (p q : ℕ → Type 0) (to : (k : ℕ) → p k → q k) (n m : ℕ) (ma
 
 module _ (s t : Sheet) (like : Alike s t) where
   left : (c : Column) → left_of s c ≡ left_of t c
-  left c = ap (position_or_len (λ d. bytes_eq (name_of d) (name_of c))) like.order
+  left c = ap (position_or_len (λ d. bytes_eq (name_of d) (name_of c))) like.columns
 
   count : count_of s ≡ count_of t
   count = ap length like.values

@@ -16,7 +16,7 @@ pub record SameSheet (s u : Sheet) : Type 0 where
   pub values : values_of s ≡ values_of u
 
 pub one_sheet : (form : Form) (text : List ℕ) (s u : Sheet) → ReadsText form text (Ok s) → ReadsText form text (Ok u) → SameSheet s u
-one_sheet form text s u (lines, order, is, shows) (lines', order', is', shows') =
+one_sheet form text s u (lines, columns, is, shows) (lines', columns', is', shows') =
     let same = one_text text lines lines' is.cut is'.cut in
     record {
       names = ap (map name_of) shows.1 ∙ sym is.heads.named ∙ ap (λ (x : List (List (List ℕ))). nth x 1 []) same ∙ is'.heads.named ∙ sym (ap (map name_of) shows'.1);
@@ -24,9 +24,9 @@ one_sheet form text s u (lines, order, is, shows) (lines', order', is', shows') 
     }
 
 -- the first place by a name, among the names
-place_by_name : (test : List ℕ → Bool) (order : List Column) → position_or_len (λ c. test (name_of c)) order ≡ position_or_len test (map name_of order)
+place_by_name : (test : List ℕ → Bool) (columns : List Column) → position_or_len (λ c. test (name_of c)) columns ≡ position_or_len test (map name_of columns)
 place_by_name test [] = refl
-place_by_name test (c ∷ order) = ap (λ n. cond (not (test (name_of c))) (1 + n) 0) (place_by_name test order)
+place_by_name test (c ∷ columns) = ap (λ n. cond (not (test (name_of c))) (1 + n) 0) (place_by_name test columns)
 
 module _ (s u : Sheet) (same : SameSheet s u) where
   same_left : (c : Column) → left_of s c ≡ left_of u c

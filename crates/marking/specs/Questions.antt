@@ -65,7 +65,7 @@ EstimateMisses tasks answer fault =
 
 -- a text is a sheet of a form
 abbrev pub IsForm : Form → List ℕ → Type 0
-IsForm form text = (lines : List (List (List ℕ))) × (order : List Column) × IsSheet form text lines order
+IsForm form text = (lines : List (List (List ℕ))) × (columns : List Column) × IsSheet form text lines columns
 
 -- The fault is the first of three texts, where one of them is no sheet: those of the board come first, then those of the tasks.
 pub data TextsMiss (board tasks answer : List ℕ) (fault : Fault) : Type 0 where

@@ -54,8 +54,8 @@ pub one_column : (a b : Column) → name_of a ≡ name_of b → a ≡ b
 one_column a b e = sym (of_name a) ∙ ap by_name e ∙ of_name b
 
 -- names are those of one list of columns
-pub one_order : (ds bs : List Column) → map name_of ds ≡ map name_of bs → ds ≡ bs
-one_order ds bs e = sym (back ds) ∙ ap (map by_name) e ∙ back bs where
+pub same_columns : (ds bs : List Column) → map name_of ds ≡ map name_of bs → ds ≡ bs
+same_columns ds bs e = sym (back ds) ∙ ap (map by_name) e ∙ back bs where
   back : (cs : List Column) → map by_name (map name_of cs) ≡ cs
   back [] = refl
   back (c ∷ cs) = ap (λ (d : Column). d ∷ map by_name (map name_of cs)) (of_name c) ∙ ap (λ (ds : List Column). c ∷ ds) (back cs)
@@ -93,7 +93,7 @@ module _ (form : Form) (names : List (List ℕ)) where
         let h = test.0 e in
         subst (λ n. Heads form names (take n columns)) (sym long ∙ h.0) (record { named = whole; size = h.0; each = h.1 })
     go false e = λ given.
-        let same : given.0 ≡ take count columns = one_order given.0 (take count columns) (sym given.1.named ∙ whole) in
+        let same : given.0 ≡ take count columns = same_columns given.0 (take count columns) (sym given.1.named ∙ whole) in
         false≢true (sym e ∙ test.1 (ap length (sym same) ∙ given.1.size, subst (λ xs. All (Contains xs) (columns_of form)) same given.1.each))
 
 -- the same of the line that is left first
