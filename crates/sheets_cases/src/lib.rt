@@ -117,6 +117,7 @@ mod tests {
         assert_eq!(rt; number_of(&sheet, 2, Column::Deadline)?, Some(0));
         assert!(rt; sheet.field(0, Column::Task).is_none());
         assert!(rt; sheet.field(3, Column::Task).is_none());
+        assert!(rt; sheet.field(3, Column::Wcet).is_none());
         assert!(rt; sheet.field(1, Column::Estimate).is_none());
         Ok(())
     }
@@ -191,6 +192,8 @@ mod tests {
             let sheet = Sheet::read(Form::Answer, &text)?;
             assert!(rt; field_of(&sheet, 1, Column::Task)?.bytes == name.as_bytes());
         }
+        let digits = Sheet::read(Form::Answer, b"task estimate\n007 1\n")?;
+        assert_eq!(rt; number_of(&digits, 1, Column::Task)?, None);
         no_answer(&rt, "task estimate\nabcdefghij-123456 1\n", 4, 2, 1)?;
         no_answer(&rt, "task estimate\nA 1\n", 4, 2, 1)?;
         no_answer(&rt, "task estimate\na_b 1\n", 4, 2, 1)?;
@@ -242,6 +245,7 @@ mod tests {
     #[test]
     fn asks_for_the_names(rt: HostRuntime) -> Result<(), Fail> {
         no_answer(&rt, "task\na\n", 2, 1, 0)?;
+        no_answer(&rt, "estimate\n1\n", 2, 1, 0)?;
         no_answer(&rt, "task task\na 1\n", 2, 1, 0)?;
         no_answer(&rt, "estimate estimate\n1 1\n", 2, 1, 0)?;
         no_answer(&rt, "task estimate task\na 1 a\n", 2, 1, 0)?;
@@ -261,6 +265,8 @@ mod tests {
         no_sheet(&rt, Form::Tasks, two, 2, 1, 0)?;
         let three = "task wcet period\na 1 2\n";
         no_sheet(&rt, Form::Tasks, three, 2, 1, 0)?;
+        let others = "wcet period deadline\n1 2 2\n";
+        no_sheet(&rt, Form::Tasks, others, 2, 1, 0)?;
         no_sheet(&rt, Form::Board, "task estimate\na 1\n", 2, 1, 0)
     }
 
@@ -526,5 +532,30 @@ mod tests {
             field: 0,
         };
         not_paired(&rt, tasks, "task estimate\nc 5\n", 8, line_2)
+    }
+
+    #[test]
+    fn finds_no_names_on_a_board(rt: HostRuntime) -> Result<(), Fail> {
+        let tasks = Sheet::read(Form::Tasks, b"task wcet period deadline\na 2 5 5\n")?;
+        let board = Sheet::read(Form::Board, b"processors overhead test\n2 0 rta\n")?;
+        let past_last = Place {
+            sheet: 1,
+            line: 2,
+            field: 4,
+        };
+        refused(&rt, pair(&tasks, &board), 7, Layer::Pair, past_last)
+    }
+
+    #[test]
+    fn names_the_columns(rt: HostRuntime) -> Result<(), Fail> {
+        assert!(rt; Column::Processors.name() == b"processors".as_slice());
+        assert!(rt; Column::Overhead.name() == b"overhead".as_slice());
+        assert!(rt; Column::Test.name() == b"test".as_slice());
+        assert!(rt; Column::Task.name() == b"task".as_slice());
+        assert!(rt; Column::Wcet.name() == b"wcet".as_slice());
+        assert!(rt; Column::Period.name() == b"period".as_slice());
+        assert!(rt; Column::Deadline.name() == b"deadline".as_slice());
+        assert!(rt; Column::Estimate.name() == b"estimate".as_slice());
+        Ok(())
     }
 }

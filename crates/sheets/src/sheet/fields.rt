@@ -87,7 +87,7 @@ impl<'a> Sheet<'a> {
     // The first of the first `count` value lines with this name.
     pub(crate) fn line_named(&self, name: &[u8], count: usize) -> Option<usize>
         requires { count ≤ 32 }
-        ensures { MatchOption result ((k : _) → 1 ≤ k → k ≤ count → task_of self.now k ≡ name.now → ⊥) (λ k. (1 ≤ k) × (k ≤ count) × (task_of self.now k ≡ name.now)) }
+        ensures { MatchOption result ((k : _) → 1 ≤ k → k ≤ count → task_of self.now k ≡ name.now → ⊥) (λ k. (1 ≤ k) × (k ≤ count) × (task_of self.now k ≡ name.now) × ((i : _) → 1 ≤ i → i < k → task_of self.now i ≡ name.now → ⊥)) }
     {
         for i in 0..count {
             if self.name(i + 1).bytes == name {
