@@ -10,7 +10,7 @@ use Rattle.bounds.specs.declared.posed.Posed.{Posed}
 use Rattle.bounds.specs.Questions.{In}
 use Rattle.bounds.specs.Posing.{own_row}
 use Rattle.bounds.specs.Loads.{work, cap_of, carried, plain, sum_to, total_of, sum_over}
-use Rattle.bounds.specs.Responses.{Choice, Greatest, carried_loads, plain_load, extra, limited_load}
+use Rattle.bounds.specs.Responses.{Choice, Greatest, carried_loads, plain_loads, extra, limited_load}
 use Rattle.bounds.specs.Climbs.{load_of, Lists, work_at, Picked, Held, NeverFalls}
 use Rattle.bounds.specs.Greatests.{greatest_is, greatest_one}
 use Rattle.bounds.specs.Sums.{sum_same, sum_mono, sum_add, over_mono}
@@ -188,7 +188,7 @@ module _ (q : Posed) (c l : ℕ)
         ]
       ]
 
-  parts : (l' : ℕ) → sum_to (part l') 32 ≡ plain_load q.rows.now q.task q.above.now l' + total_of is_chosen (gain l') (length q.rows.now)
+  parts : (l' : ℕ) → sum_to (part l') 32 ≡ plain_loads q.rows.now q.task q.above.now l' + total_of is_chosen (gain l') (length q.rows.now)
   unfolding part
   parts l' = omega (arith, sum_add (λ k. cond (above k) (plain_part l' k) 0) (λ k. cond (is_chosen k) (gain l' k) 0) 32, sum_rows q (plain_part l'), total_rows is_chosen choice.inside (gain l'))
 
