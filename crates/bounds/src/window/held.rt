@@ -5,8 +5,8 @@ ghost use Rattle.bounds.specs.Climbs.{load_of, Held, Lists, work_at};
 ghost use Rattle.bounds.specs.Posing.{own_row};
 
 use super::Window;
-use crate::load::work_in;
 use crate::picks::picks;
+use crate::work::work_in;
 use std::array;
 
 // What each task adds to its plain load by carrying load in, both held to the cap.
