@@ -1,7 +1,6 @@
 pub mod Descents
 pub mod Handed
 pub mod Filled
-pub mod Helds
 pub mod Left
 pub mod Listed
 pub mod Making
@@ -14,5 +13,6 @@ pub mod Skips
 pub mod Sounding
 pub mod Spans
 pub mod Tallies
+pub mod UncappedLoads
 pub mod Wcets
 pub mod Holding

@@ -7,7 +7,7 @@ use Rattle.table.specs.Places.{nth}
 use Rattle.bounds.specs.declared.tally.Tally.{Tally}
 use Rattle.bounds.specs.Loads.{cap_of}
 use Rattle.bounds.specs.Responses.{least_fit}
-use Rattle.bounds.specs.Climbs.{held_to, Held, Tallied, NoneDo}
+use Rattle.bounds.specs.Climbs.{capped_total, Uncapped, Tallied, NoneDo}
 use Rattle.bounds.specs.Leasts.{least_found, least_missing}
 use Rattle.bounds.specs.Sums.{sum_mono, sum_add, total_constant}
 
@@ -27,24 +27,24 @@ next_cap t m = max (t.sum / m + 1) (jump t m)
 pub next_rises : (t : Tally) (m y : ℕ) → 0 < m → m * y ≤ t.sum → y < next_cap t m
 next_rises t m y pos h = omega (arith, le-div y t.sum m pos (omega (arith, mul_comm y m)))
 
-module _ (held : List ℕ) (y : ℕ) (t : Tally) (tallied : Tallied held 32 y t) where
+module _ (loads : List ℕ) (y : ℕ) (t : Tally) (tallied : Tallied loads 32 y t) where
   abbrev big : ℕ → Bool
-  big k = ltb y (nth held k 0)
+  big k = ltb y (nth loads k 0)
 
-  rises : (z : ℕ) → y ≤ z → held_to held 32 y ≤ held_to held 32 z
+  rises : (z : ℕ) → y ≤ z → capped_total loads 32 y ≤ capped_total loads 32 z
   rises z h = sum_mono _ _ 32 (λ k low high. omega arith)
 
   -- up to a number that each of the others is at least, each of those is at the cap
-  split : (z : ℕ) → y ≤ z → z ≤ t.least → t.over * z + t.rest ≤ held_to held 32 z
+  split : (z : ℕ) → y ≤ z → z ≤ t.least → t.over * z + t.rest ≤ capped_total loads 32 z
   split z h le =
-      let parts = sum_mono (λ k. cond (big k) z 0 + cond (big k) 0 (nth held k 0)) (λ k. min (nth held k 0) z) 32 (λ k low high. elim (cases_Bool (big k)) [
-        | inl y ↦ omega (arith, cond-true (big k) 0 (nth held k 0) y, cond-true (big k) z 0 y, tallied.least k low high (ltb-true _ (nth held k 0) y))
-        | inr s ↦ omega (arith, cond-false (big k) 0 (nth held k 0) s, cond-false (big k) z 0 s, ltb-false y (nth held k 0) s)
+      let parts = sum_mono (λ k. cond (big k) z 0 + cond (big k) 0 (nth loads k 0)) (λ k. min (nth loads k 0) z) 32 (λ k low high. elim (cases_Bool (big k)) [
+        | inl y ↦ omega (arith, cond-true (big k) 0 (nth loads k 0) y, cond-true (big k) z 0 y, tallied.least k low high (ltb-true _ (nth loads k 0) y))
+        | inr s ↦ omega (arith, cond-false (big k) 0 (nth loads k 0) s, cond-false (big k) z 0 s, ltb-false y (nth loads k 0) s)
       ]) in
-      omega (arith, parts, sum_add (λ k. cond (big k) z 0) (λ k. cond (big k) 0 (nth held k 0)) 32, total_constant big z 32, ap (λ o. o * z) tallied.over, tallied.rest)
+      omega (arith, parts, sum_add (λ k. cond (big k) z 0) (λ k. cond (big k) 0 (nth loads k 0)) 32, total_constant big z 32, ap (λ o. o * z) tallied.over, tallied.rest)
 
   -- no cap from y on that the loads above the cap and the rest rule out can do
-  jumps : (m z : ℕ) → y ≤ z → z < jump t m → m * z ≤ held_to held 32 z
+  jumps : (m z : ℕ) → y ≤ z → z < jump t m → m * z ≤ capped_total loads 32 z
   jumps m z h lt =
       let few = ltb t.over m in
       let both = min (t.rest / (m - t.over) + 1) (t.least + 1) in
@@ -60,7 +60,7 @@ module _ (held : List ℕ) (y : ℕ) (t : Tally) (tallied : Tallied held 32 y t)
       ]
 
   -- no cap from y on and below the next one can do
-  pub skips : (m z : ℕ) → 0 < m → y ≤ z → z < next_cap t m → m * z ≤ held_to held 32 z
+  pub skips : (m z : ℕ) → 0 < m → y ≤ z → z < next_cap t m → m * z ≤ capped_total loads 32 z
   skips m z pos h lt =
       elim (cases_lt z (t.sum / m + 1)) [
         | inl near ↦ omega (arith, below_div t.sum m z (omega arith), tallied.sum, rises z h)
@@ -90,24 +90,24 @@ module _ (m : ℕ) (pos : 0 < m) (i : Row) (load : ℕ → ℕ) (y : ℕ) (from 
   pub passed_all : cap_of i i.deadline < y → least_fit m i load ≡ None
   passed_all past = least_missing _ i.wcet (i.deadline - i.wcet + 1) (λ l low high. passed l low (omega (arith, i.ok)))
 
-  pub passed_more : (held : List ℕ) (z : ℕ) → Held load i (i.wcet + y - 1) held → NoneDo held m y z → Passed m i load z
-  passed_more held z holds none l low high =
+  pub passed_more : (loads : List ℕ) (z : ℕ) → Uncapped load i (i.wcet + y - 1) loads → NoneDo loads m y z → Passed m i load z
+  passed_more loads z holds none l low high =
       elim (cases_lt (cap_of i l) y) [
         | inl before ↦ passed l low before
         | inr after ↦ misses_above m pos i load l low (omega (arith, none (cap_of i l) after high, holds.later l (omega arith)))
       ]
 
   -- what a turn of the climb shows, by the wcet that was read
-  module _ (wcet : ℕ) (we : wcet ≡ i.wcet) (held : List ℕ) (t : Tally) (holds : Held load i (wcet + y - 1) held) (tallied : Tallied held 32 y t) where
-    holds_here : Held load i (i.wcet + y - 1) held
-    holds_here = subst (λ w. Held load i (w + y - 1) held) we holds
+  module _ (wcet : ℕ) (we : wcet ≡ i.wcet) (loads : List ℕ) (t : Tally) (holds : Uncapped load i (wcet + y - 1) loads) (tallied : Tallied loads 32 y t) where
+    holds_here : Uncapped load i (i.wcet + y - 1) loads
+    holds_here = subst (λ w. Uncapped load i (w + y - 1) loads) we holds
 
     pub turn_found : y ≤ cap_of i i.deadline → t.sum < m * y → Some (wcet + y - 1) ≡ least_fit m i load
     turn_found in' h =
         let l = i.wcet + y - 1 in
         let cap : cap_of i l ≡ y = omega arith in
-        let sum : load l ≡ t.sum = sym holds_here.here ∙ ap (held_to held 32) cap ∙ sym tallied.sum in
+        let sum : load l ≡ t.sum = sym holds_here.here ∙ ap (capped_total loads 32) cap ∙ sym tallied.sum in
         ap (λ w. Some (w + y - 1)) we ∙ sym (climbed in' (omega (arith, sum, h)))
 
-    pub turn_passed : (z : ℕ) → NoneDo held m y z → Passed m i load z
-    turn_passed z none = passed_more held z holds_here none
+    pub turn_passed : (z : ℕ) → NoneDo loads m y z → Passed m i load z
+    turn_passed z none = passed_more loads z holds_here none

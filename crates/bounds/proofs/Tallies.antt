@@ -7,35 +7,35 @@ use Rattle.bounds.specs.declared.tally.Tally.{Tally}
 use Rattle.bounds.specs.Climbs.{Tallied}
 use Rattle.bounds.specs.Sums.{sum_none, sum_more, sum_le}
 
-pub tallied_none : (held : List ℕ) (y : ℕ) → Tallied held 0 y (record { sum = 0; over = 0; least = 2000000; rest = 0 })
-tallied_none held y = record { sum = sym (sum_none _); over = sym (sum_none _); least = λ k low high. absurd (omega arith); rest = sym (sum_none _) }
+pub tallied_none : (loads : List ℕ) (y : ℕ) → Tallied loads 0 y (record { sum = 0; over = 0; least = 2000000; rest = 0 })
+tallied_none loads y = record { sum = sym (sum_none _); over = sym (sum_none _); least = λ k low high. absurd (omega arith); rest = sym (sum_none _) }
 
-module _ (held : List ℕ) (p y : ℕ) (t : Tally) (tallied : Tallied held p y t) where
-  pub tallied_big : (least : ℕ) → least ≡ min t.least (get_or held p 0) → y < get_or held p 0 → Tallied held (p + 1) y (record { sum = t.sum + y; over = t.over + 1; least = least; rest = t.rest })
+module _ (loads : List ℕ) (p y : ℕ) (t : Tally) (tallied : Tallied loads p y t) where
+  pub tallied_big : (least : ℕ) → least ≡ min t.least (get_or loads p 0) → y < get_or loads p 0 → Tallied loads (p + 1) y (record { sum = t.sum + y; over = t.over + 1; least = least; rest = t.rest })
   tallied_big least is h =
-      let x = nth_next held p 0 in
-      let big = lt-ltb y (nth held (p + 1) 0) (omega arith) in
+      let x = nth_next loads p 0 in
+      let big = lt-ltb y (nth loads (p + 1) 0) (omega arith) in
       record {
-        sum = omega (arith, tallied.sum, sum_more (λ k. min (nth held k 0) y) p);
-        over = omega (arith, tallied.over, sum_more (λ k. cond (ltb y (nth held k 0)) 1 0) p, cond-true {A = ℕ} _ 1 0 big);
-        least = λ k low high b. elim (cases_eq k (p + 1)) [ inl e ↦ omega (arith, ap (λ j. nth held j 0) e) | inr d ↦ omega (arith, tallied.least k low (omega arith) b) ];
-        rest = omega (arith, tallied.rest, sum_more (λ k. cond (ltb y (nth held k 0)) 0 (nth held k 0)) p, cond-true _ 0 (nth held (p + 1) 0) big);
+        sum = omega (arith, tallied.sum, sum_more (λ k. min (nth loads k 0) y) p);
+        over = omega (arith, tallied.over, sum_more (λ k. cond (ltb y (nth loads k 0)) 1 0) p, cond-true {A = ℕ} _ 1 0 big);
+        least = λ k low high b. elim (cases_eq k (p + 1)) [ inl e ↦ omega (arith, ap (λ j. nth loads j 0) e) | inr d ↦ omega (arith, tallied.least k low (omega arith) b) ];
+        rest = omega (arith, tallied.rest, sum_more (λ k. cond (ltb y (nth loads k 0)) 0 (nth loads k 0)) p, cond-true _ 0 (nth loads (p + 1) 0) big);
       }
 
-  pub tallied_small : get_or held p 0 ≤ y → Tallied held (p + 1) y (record { sum = t.sum + get_or held p 0; over = t.over; least = t.least; rest = t.rest + get_or held p 0 })
+  pub tallied_small : get_or loads p 0 ≤ y → Tallied loads (p + 1) y (record { sum = t.sum + get_or loads p 0; over = t.over; least = t.least; rest = t.rest + get_or loads p 0 })
   tallied_small h =
-      let x = nth_next held p 0 in
-      let small = le-ltb y (nth held (p + 1) 0) (omega arith) in
+      let x = nth_next loads p 0 in
+      let small = le-ltb y (nth loads (p + 1) 0) (omega arith) in
       record {
-        sum = omega (arith, tallied.sum, sum_more (λ k. min (nth held k 0) y) p);
-        over = omega (arith, tallied.over, sum_more (λ k. cond (ltb y (nth held k 0)) 1 0) p, cond-false {A = ℕ} _ 1 0 small);
-        least = λ k low high b. elim (cases_eq k (p + 1)) [ inl e ↦ absurd (omega (arith, ap (λ j. nth held j 0) e)) | inr d ↦ tallied.least k low (omega arith) b ];
-        rest = omega (arith, tallied.rest, sum_more (λ k. cond (ltb y (nth held k 0)) 0 (nth held k 0)) p, cond-false _ 0 (nth held (p + 1) 0) small);
+        sum = omega (arith, tallied.sum, sum_more (λ k. min (nth loads k 0) y) p);
+        over = omega (arith, tallied.over, sum_more (λ k. cond (ltb y (nth loads k 0)) 1 0) p, cond-false {A = ℕ} _ 1 0 small);
+        least = λ k low high b. elim (cases_eq k (p + 1)) [ inl e ↦ absurd (omega (arith, ap (λ j. nth loads j 0) e)) | inr d ↦ tallied.least k low (omega arith) b ];
+        rest = omega (arith, tallied.rest, sum_more (λ k. cond (ltb y (nth loads k 0)) 0 (nth loads k 0)) p, cond-false _ 0 (nth loads (p + 1) 0) small);
       }
 
   pub tally_limits : y ≤ 1000000 → (t.sum ≤ p * 1000000) × (t.over ≤ p) × (t.rest ≤ p * 1000000)
   tally_limits short = (
-    omega (arith, tallied.sum, sum_le (λ k. min (nth held k 0) y) 1000000 p (λ k low high. omega arith)),
-    omega (arith, tallied.over, mul-one p, sum_le (λ k. cond (ltb y (nth held k 0)) 1 0) 1 p (λ k low high. elim (cases_Bool (ltb y (nth held k 0))) [ inl b ↦ omega (arith, cond-true {A = ℕ} _ 1 0 b) | inr s ↦ omega (arith, cond-false {A = ℕ} _ 1 0 s) ])),
-    omega (arith, tallied.rest, sum_le (λ k. cond (ltb y (nth held k 0)) 0 (nth held k 0)) 1000000 p (λ k low high. elim (cases_Bool (ltb y (nth held k 0))) [ inl b ↦ omega (arith, cond-true _ 0 (nth held k 0) b) | inr s ↦ omega (arith, cond-false _ 0 (nth held k 0) s, ltb-false y (nth held k 0) s) ])),
+    omega (arith, tallied.sum, sum_le (λ k. min (nth loads k 0) y) 1000000 p (λ k low high. omega arith)),
+    omega (arith, tallied.over, mul-one p, sum_le (λ k. cond (ltb y (nth loads k 0)) 1 0) 1 p (λ k low high. elim (cases_Bool (ltb y (nth loads k 0))) [ inl b ↦ omega (arith, cond-true {A = ℕ} _ 1 0 b) | inr s ↦ omega (arith, cond-false {A = ℕ} _ 1 0 s) ])),
+    omega (arith, tallied.rest, sum_le (λ k. cond (ltb y (nth loads k 0)) 0 (nth loads k 0)) 1000000 p (λ k low high. elim (cases_Bool (ltb y (nth loads k 0))) [ inl b ↦ omega (arith, cond-true _ 0 (nth loads k 0) b) | inr s ↦ omega (arith, cond-false _ 0 (nth loads k 0) s, ltb-false y (nth loads k 0) s) ])),
   )

@@ -31,8 +31,8 @@ abbrev pub work_at : Posed → ℕ → Bool → ℕ → ℕ
 work_at q l carries k = cond (nth q.above.now k false) (cond carries (work (row q.rows.now k) (l + nth q.estimates.now k 0 - (row q.rows.now k).wcet)) (work (row q.rows.now k) l)) 0
 
 -- the loads of a list in all, each held to a cap
-abbrev pub held_to : List ℕ → ℕ → ℕ → ℕ
-held_to held n y = sum_to (λ k. min (nth held k 0) y) n
+abbrev pub capped_total : List ℕ → ℕ → ℕ → ℕ
+capped_total uncapped n y = sum_to (λ k. min (nth uncapped k 0) y) n
 
 -- at most c of 32 places are chosen, each with a number above 0, and no other such choice has a greater total
 pub record Picked (numbers : List ℕ) (c : ℕ) (chosen : List Bool) : Type 0 where
@@ -47,9 +47,9 @@ GreatestLeft numbers chosen best =
     (λ p. (p < 32) × (slice_index_or chosen p false ≡ false) × (0 < slice_index numbers p) × ((j : ℕ) → j < 32 → slice_index_or chosen j false ≡ false → slice_index numbers j ≤ slice_index numbers p))
 
 -- loads before the cap, which in a window l make up its load, and in any longer window no more than its load
-pub record Held (load : ℕ → ℕ) (i : Row) (l : ℕ) (held : List ℕ) : Type 0 where
-  pub here : held_to held 32 (cap_of i l) ≡ load l
-  pub later : (l' : ℕ) → l ≤ l' → held_to held 32 (cap_of i l') ≤ load l'
+pub record Uncapped (load : ℕ → ℕ) (i : Row) (l : ℕ) (uncapped : List ℕ) : Type 0 where
+  pub here : capped_total uncapped 32 (cap_of i l) ≡ load l
+  pub later : (l' : ℕ) → l ≤ l' → capped_total uncapped 32 (cap_of i l') ≤ load l'
 
 -- the load never falls as the window grows
 abbrev pub NeverFalls : (ℕ → ℕ) → Type 0
@@ -57,18 +57,18 @@ NeverFalls load = (l l' : ℕ) → l ≤ l' → load l ≤ load l'
 
 -- none of the first n loads that are above y is below b
 abbrev pub NoneBelow : List ℕ → ℕ → ℕ → ℕ → Type 0
-NoneBelow held n y b = (k : ℕ) → 1 ≤ k → k ≤ n → y < nth held k 0 → b ≤ nth held k 0
+NoneBelow uncapped n y b = (k : ℕ) → 1 ≤ k → k ≤ n → y < nth uncapped k 0 → b ≤ nth uncapped k 0
 
 -- the tally of the first n loads of a list at a cap y
-pub record Tallied (held : List ℕ) (n y : ℕ) (t : Tally) : Type 0 where
-  pub sum : t.sum ≡ held_to held n y
-  pub over : t.over ≡ total_of (λ k. ltb y (nth held k 0)) (λ _. 1) n
-  pub least : NoneBelow held n y t.least
-  pub rest : t.rest ≡ sum_to (λ k. cond (nat_lt y (nth held k 0)) 0 (nth held k 0)) n
+pub record Tallied (uncapped : List ℕ) (n y : ℕ) (t : Tally) : Type 0 where
+  pub sum : t.sum ≡ capped_total uncapped n y
+  pub over : t.over ≡ total_of (λ k. ltb y (nth uncapped k 0)) (λ _. 1) n
+  pub least : NoneBelow uncapped n y t.least
+  pub rest : t.rest ≡ sum_to (λ k. cond (nat_lt y (nth uncapped k 0)) 0 (nth uncapped k 0)) n
 
 -- no cap from y on and below z can do: at each, the loads make up at least m times the cap
 abbrev pub NoneDo : List ℕ → ℕ → ℕ → ℕ → Type 0
-NoneDo held m y z = (x : ℕ) → y ≤ x → x < z → m * x ≤ held_to held 32 x
+NoneDo uncapped m y z = (x : ℕ) → y ≤ x → x < z → m * x ≤ capped_total uncapped 32 x
 
 -- a tally of 32 loads at a cap of at most 1,000,000
 abbrev pub Limited : Tally → Type 0

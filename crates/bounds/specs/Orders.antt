@@ -30,12 +30,12 @@ abbrev pub padded : List ℕ → List ℕ
 padded xs = take 32 (xs ++ replicate 32 0)
 
 -- the C of each row
-abbrev pub costs : List Row → List ℕ
-costs rows = map (λ (r : Row). r.wcet) rows
+abbrev pub wcet_list : List Row → List ℕ
+wcet_list rows = map (λ (r : Row). r.wcet) rows
 
 -- the estimates of which each is its row's C
 abbrev pub wcets : List Row → List ℕ
-wcets rows = padded (costs rows)
+wcets rows = padded (wcet_list rows)
 
 -- the estimates once the first p tasks of an order have their bounds: these bounds, and C for every other row
 unfoldable pub estimated : List Row → List ℕ → List ℕ → ℕ → List ℕ

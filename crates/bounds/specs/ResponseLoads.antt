@@ -9,7 +9,7 @@ use Rattle.bounds.specs.declared.rta.Rta.{Rta}
 use Rattle.bounds.specs.declared.lc.Lc.{Lc}
 use Rattle.bounds.specs.Questions.{In, Laws, soundb}
 use Rattle.bounds.specs.Loads.{carried}
-use Rattle.bounds.specs.Responses.{carried_loads, rta, greatest, plain_load, extra, limited_load, lc, Least, RtaMeaning, LcMeaning}
+use Rattle.bounds.specs.Responses.{carried_loads, rta, greatest, plain_loads, extra, limited_load, lc, Least, RtaMeaning, LcMeaning}
 use Rattle.bounds.specs.Leasts.{fit_laws, fit_least}
 use Rattle.bounds.specs.Greatests.{greatest_is}
 use Rattle.bounds.specs.Sounds.{sound_test}
@@ -41,7 +41,7 @@ greatest_mono s u f g c (suc n) sub le =
 limited_load_mono : (c : ℕ) (rows : List Row) (i : ℕ) (s u : List Bool) (e f : List ℕ) → ((k : ℕ) → In s k → In u k) → ((k : ℕ) → Names rows k → In s k → nth e k 0 ≤ nth f k 0) → (l : ℕ) → limited_load c rows i s e l ≤ limited_load c rows i u f l
 limited_load_mono c rows i s u e f sub le l =
     let own = row rows i in
-    let plains : plain_load rows i s l ≤ plain_load rows i u l = over_mono s u _ _ (length rows) sub (λ k low high y. omega arith) in
+    let plains : plain_loads rows i s l ≤ plain_loads rows i u l = over_mono s u _ _ (length rows) sub (λ k low high y. omega arith) in
     let extras = greatest_mono s u (extra rows i e l) (extra rows i f l) c (length rows) sub (λ k low high y. omega (arith, carried_mono own l (row rows k) (nth e k 0) (nth f k 0) (le k (low, high) y))) in
     omega (arith, plains, extras)
 

@@ -53,8 +53,8 @@ greatest set f c zero = 0
 greatest set f c (suc n) = max (greatest set f c n) (cond (nth set (suc n) false && nat_lt 0 c) (greatest set f (c - 1) n + f (suc n)) 0)
 
 -- the plain loads of the tasks above in a window
-abbrev pub plain_load : List Row → ℕ → List Bool → ℕ → ℕ
-plain_load rows i above l = sum_over above (λ k. plain (row rows i) l (row rows k)) (length rows)
+abbrev pub plain_loads : List Row → ℕ → List Bool → ℕ → ℕ
+plain_loads rows i above l = sum_over above (λ k. plain (row rows i) l (row rows k)) (length rows)
 
 -- what task k adds to its plain load in a window if it carries load in
 abbrev pub extra : List Row → ℕ → List ℕ → ℕ → ℕ → ℕ
@@ -62,7 +62,7 @@ extra rows i estimates l k = carried (row rows i) l (row rows k) (nth estimates 
 
 -- lc's load in a window: the plain loads plus the greatest total of what at most c tasks add by carrying load in
 abbrev pub limited_load : ℕ → List Row → ℕ → List Bool → List ℕ → ℕ → ℕ
-limited_load c rows i above estimates l = plain_load rows i above l + greatest above (extra rows i estimates l) c (length rows)
+limited_load c rows i above estimates l = plain_loads rows i above l + greatest above (extra rows i estimates l) c (length rows)
 
 -- lc: the answer by the load of which at most m − 1 tasks carry in
 abbrev pub lc : ℕ → List Row → ℕ → List Bool → List ℕ → Option ℕ
@@ -72,4 +72,4 @@ lc m = answer_by m (limited_load (m - 1))
 abbrev pub LcMeaning : Type 0
 LcMeaning =
     (m : ℕ) (rows : List Row) (i : ℕ) (above : List Bool) (estimates : List ℕ) → Sound rows i above estimates →
-    (most : ℕ → ℕ) × ((l : ℕ) → Greatest above (extra rows i estimates l) (m - 1) (length rows) (most l)) × Least m (row rows i) (λ l. plain_load rows i above l + most l) (lc m rows i above estimates)
+    (most : ℕ → ℕ) × ((l : ℕ) → Greatest above (extra rows i estimates l) (m - 1) (length rows) (most l)) × Least m (row rows i) (λ l. plain_loads rows i above l + most l) (lc m rows i above estimates)

@@ -25,8 +25,8 @@ fn least_window(m: Processors, limit: Option<u32>, q: &Posed<'_>) -> Option<u32>
             posed: *q,
             length: wcet + cap - 1,
         };
-        let held = window.held_loads(limit);
-        let tally = Tally::of(&held, cap);
+        let loads = window.uncapped_loads(limit);
+        let tally = Tally::of(&loads, cap);
         if tally.sum < m.count() * cap {
             return Some(window.length);
         }

@@ -1,6 +1,6 @@
 // Lists of 32 places, by row.
 ghost use Rattle.std.specs.Prelude.{◌≡◌, slice_index};
-ghost use Rattle.bounds.specs.Orders.{padded as filled, costs, wcets};
+ghost use Rattle.bounds.specs.Orders.{padded as filled, wcet_list, wcets};
 
 use std::array;
 use table::row::Row;
@@ -14,7 +14,7 @@ pub(crate) fn padded(numbers: &[u32]) -> [u32; 32]
 
 // The wcet of the row at a place, and 0 where there is no row.
 fn wcet_at(rows: &[Row], place: usize) -> u32
-    ensures { result ≡ slice_index (costs rows.now) place }
+    ensures { result ≡ slice_index (wcet_list rows.now) place }
 {
     rows.get(place).map_or(0, |row| row.wcet())
 }

@@ -1,4 +1,4 @@
-// What is added up of the loads that are held in a window, and the next cap that it leaves.
+// What is added up of the uncapped loads of a window, and the next cap that it leaves.
 ghost use Rattle.std.specs.Prelude.{ℕ, ◌*◌, ◌<◌, ◌≤◌, List};
 ghost use Rattle.bounds.specs.Climbs.{Tallied, Limited, NoneDo};
 
@@ -22,9 +22,9 @@ pub(crate) struct Tally {
 
 impl Tally {
     // What the loads make up at a cap.
-    pub(crate) fn of(held: &[u32; 32], cap: u32) -> Tally
+    pub(crate) fn of(loads: &[u32; 32], cap: u32) -> Tally
         requires short { cap ≤ 1000000 }
-        ensures sums { Tallied held.now 32 cap result }
+        ensures sums { Tallied loads.now 32 cap result }
         ensures limits { Limited result }
     {
         let mut tally = Tally {
@@ -33,7 +33,7 @@ impl Tally {
             least: LONGEST,
             rest: 0,
         };
-        for &load in held {
+        for &load in loads {
             if load > cap {
                 tally.sum += cap;
                 tally.over += 1;
@@ -51,7 +51,7 @@ impl Tally {
     pub(crate) fn next_cap(self, m: Processors) -> u32
         requires { Limited self }
         ensures rises { (y : ℕ) → m.count * y ≤ self.sum → y < result }
-        ensures skips { (held : List ℕ) (y : ℕ) → Tallied held 32 y self → NoneDo held m.count y result }
+        ensures skips { (loads : List ℕ) (y : ℕ) → Tallied loads 32 y self → NoneDo loads m.count y result }
     {
         let count = m.count();
         let jump = if self.over < count {

@@ -4,8 +4,8 @@ ghost use Rattle.bounds.specs.Posing.{own_row};
 
 use crate::posed::Posed;
 
-mod held;
 mod loads;
+mod uncapped;
 
 /// A window by its length, from the task's wcet to its deadline.
 #[derive(Clone, Copy)]

@@ -15,7 +15,7 @@ use Rattle.bounds.proofs.Descents.{first_none, first_more}
 use Rattle.bounds.specs.Sounds.{in_low}
 use Rattle.orders.specs.declared.range.Range.{Range}
 use Rattle.orders.specs.Ranges.{high, Within, Passes, Admits, Closed}
-use Rattle.orders.specs.Assigner.{at_most, full, candidate, fill, assigned, Assigns, Settles, LowestNumbered, FillsLowest}
+use Rattle.orders.specs.Assigner.{at_most, full, candidate, fill, assigned, Assigns, FindsIfOpen, LowestNumbered, FillsLowest}
 use Rattle.orders.proofs.Sets.{out, was_in, still_in, put_back, first_length, member_first, not_first, every, same_set, first_same, count_all, count_out, none_in, full_length, full_in, full_out, first_out}
 use Rattle.orders.proofs.Puts.{put_apart}
 
@@ -231,9 +231,9 @@ module _ {T : Type 0} {answer : T → List Row → ℕ → List Bool → List �
     decided (Some order) is = found_admits order is
 
     -- what follows from the assigner's rule
-    pub settles : (found : Option (List ℕ)) → Assigns answer t rows r found → Settles answer t rows r found
-    settles None is within = decided None (is.1 within)
-    settles (Some tasks) is within = decided (Some (take (length rows) tasks)) (is.1 within).0
+    pub finds_if_open : (found : Option (List ℕ)) → Assigns answer t rows r found → FindsIfOpen answer t rows r found
+    finds_if_open None is within = decided None (is.1 within)
+    finds_if_open (Some tasks) is within = decided (Some (take (length rows) tasks)) (is.1 within).0
 
     pub fills_lowest : Within rows r → (found : Option (List ℕ)) → Assigns answer t rows r found → FillsLowest answer t rows r found
     fills_lowest within None is = tt

@@ -22,26 +22,26 @@ halved n a b l h le =
     let next : 20 - n ≡ suc (20 - (n + 1)) = omega arith in
     omega (arith, h, le, ap (λ j. 2 ^ j) next ∙ pow-succ' 2 (20 - (n + 1)))
 
--- the same after three rounds that may leave all: what is left after a step of a round, moved or not
-pub narrowed : (round room step left : ℕ) → round < 23 → room < 2 ^ (20 - (round - 3)) → 1 ≤ step → step ≤ room → (3 ≤ round → (room ≤ 2 * step) × (2 * step ≤ room + 1)) → (left ≡ room - step) ⊎ (left ≡ step - 1) → left < 2 ^ (20 - (round + 1 - 3))
-narrowed round room step left l few some le halves one = elim (cases_lt round 3) [
+-- the same after three rounds that may leave all: what is left after what was tried in a round, moved or not
+pub narrowed : (round left tried rest : ℕ) → round < 23 → left < 2 ^ (20 - (round - 3)) → 1 ≤ tried → tried ≤ left → (3 ≤ round → (left ≤ 2 * tried) × (2 * tried ≤ left + 1)) → (rest ≡ left - tried) ⊎ (rest ≡ tried - 1) → rest < 2 ^ (20 - (round + 1 - 3))
+narrowed round left tried rest l few some le halves one = elim (cases_lt round 3) [
   | inl early ↦
       let now : 20 - (round - 3) ≡ 20 - (round + 1 - 3) = omega arith in
-      let less : left ≤ room = elim one [ inl a ↦ omega arith | inr b ↦ omega arith ] in
+      let less : rest ≤ left = elim one [ inl a ↦ omega arith | inr b ↦ omega arith ] in
       omega (arith, ap (λ n. 2 ^ n) now)
   | inr late ↦
       let half = halves late in
-      let less : 2 * left ≤ room = elim one [ inl a ↦ omega (arith, half.0) | inr b ↦ omega (arith, half.1) ] in
+      let less : 2 * rest ≤ left = elim one [ inl a ↦ omega (arith, half.0) | inr b ↦ omega (arith, half.1) ] in
       let on : 20 - (round - 3 + 1) ≡ 20 - (round + 1 - 3) = omega arith in
-      subst (λ n. left < 2 ^ n) on (halved (round - 3) room left (omega arith) few less)
+      subst (λ n. rest < 2 ^ n) on (halved (round - 3) left rest (omega arith) few less)
 ]
 
--- An end of row k has been moved out, and there is this much room left to move it: any farther leaves the range open.
-pub record MovedOut {T : Type 0} (answer : T → List Row → ℕ → List Bool → List ℕ → Option ℕ) (t : T) (rows : List Row) (end : End) (r : Range) (k room : ℕ) (q : Range) : Type 0 where
+-- An end of row k has been moved out, and this much is left to move it: any farther leaves the range open.
+pub record MovedOut {T : Type 0} (answer : T → List Row → ℕ → List Bool → List ℕ → Option ℕ) (t : T) (rows : List Row) (end : End) (r : Range) (k left : ℕ) (q : Range) : Type 0 where
   by : ℕ
   is : q ≡ moved end r k by
-  inside : by + room ≤ reach end rows r k
-  opens : (b : ℕ) → by + room < b → b ≤ reach end rows r k → Closed answer t rows (moved end r k b) → ⊥
+  inside : by + left ≤ reach end rows r k
+  opens : (b : ℕ) → by + left < b → b ≤ reach end rows r k → Closed answer t rows (moved end r k b) → ⊥
 
 module _ {T : Type 0} {answer : T → List Row → ℕ → List Bool → List ℕ → Option ℕ} (laws : Laws answer) (t : T) (rows : List Row) (few : length rows ≤ 32) where
   abbrev Shut : Range → Type 0
@@ -55,7 +55,7 @@ module _ {T : Type 0} {answer : T → List Row → ℕ → List Bool → List �
   pub open_or_closed : (r : Range) → Open answer t rows r ⊎ Shut r
   open_or_closed r = by_answer r (assigned answer t rows r) refl
 
-  -- an end is grown once no room is left
+  -- an end is grown once nothing is left
   grown_at : (end : End) (r : Range) → Within rows r → (k : ℕ) → Names rows k → (q : Range) → MovedOut answer t rows end r k 0 q → Shut q → EndGrown answer t rows end r k q
   grown_at Low r within k names q out shut = record {
     value = low r k - out.by;
@@ -87,32 +87,32 @@ module _ {T : Type 0} {answer : T → List Row → ℕ → List Bool → List �
     short = reach_short rows r within k names end
 
     -- what is left of the reach
-    pub room_left : (room : ℕ) (q : Range) → MovedOut answer t rows end r k room q → room ≤ reach end rows q k
-    room_left room q out = omega (arith, out.inside, ap (λ x. reach end rows x k) out.is ∙ reach_moved rows r within k names end out.by)
+    pub left_in_reach : (left : ℕ) (q : Range) → MovedOut answer t rows end r k left q → left ≤ reach end rows q k
+    left_in_reach left q out = omega (arith, out.inside, ap (λ x. reach end rows x k) out.is ∙ reach_moved rows r within k names end out.by)
 
-    pub out_more : (room step : ℕ) (q wider : Range) → MovedOut answer t rows end r k room q → step ≤ room → wider ≡ moved end q k step → MovedOut answer t rows end r k (room - step) wider
-    out_more room step q wider out le is = record {
-      by = out.by + step;
-      is = is ∙ ap (λ x. moved end x k step) out.is ∙ moved_twice rows r within k names end out.by step;
+    pub out_more : (left tried : ℕ) (q wider : Range) → MovedOut answer t rows end r k left q → tried ≤ left → wider ≡ moved end q k tried → MovedOut answer t rows end r k (left - tried) wider
+    out_more left tried q wider out le is = record {
+      by = out.by + tried;
+      is = is ∙ ap (λ x. moved end x k tried) out.is ∙ moved_twice rows r within k names end out.by tried;
       inside = omega (arith, out.inside);
       opens = λ b far near. out.opens b (omega arith) near;
     }
 
     -- what is open stays open farther out
-    pub out_less : (room step : ℕ) (q : Range) → MovedOut answer t rows end r k room q → 1 ≤ step → step ≤ room → (Within rows (moved end q k step) → Shut (moved end q k step) → ⊥) → MovedOut answer t rows end r k (step - 1) q
-    out_less room step q out pos le opened = record {
+    pub out_less : (left tried : ℕ) (q : Range) → MovedOut answer t rows end r k left q → 1 ≤ tried → tried ≤ left → (Within rows (moved end q k tried) → Shut (moved end q k tried) → ⊥) → MovedOut answer t rows end r k (tried - 1) q
+    out_less left tried q out pos le opened = record {
       by = out.by;
       is = out.is;
       inside = omega (arith, out.inside);
       opens = λ b far near closed.
-          let here : moved end q k step ≡ moved end r k (out.by + step) = ap (λ x. moved end x k step) out.is ∙ moved_twice rows r within k names end out.by step in
-          let lies = moved_within rows r within k names end (out.by + step) (omega (arith, out.inside)) in
+          let here : moved end q k tried ≡ moved end r k (out.by + tried) = ap (λ x. moved end x k tried) out.is ∙ moved_twice rows r within k names end out.by tried in
+          let lies = moved_within rows r within k names end (out.by + tried) (omega (arith, out.inside)) in
           opened (subst (Within rows) (sym here) lies)
-          (subst Shut (sym here) (narrowing laws t rows few (moved end r k b) (moved end r k (out.by + step)) (moved_within rows r within k names end b near) lies (moved_contains rows r within k names end (out.by + step) b (omega arith)) closed));
+          (subst Shut (sym here) (narrowing laws t rows few (moved end r k b) (moved end r k (out.by + tried)) (moved_within rows r within k names end b near) lies (moved_contains rows r within k names end (out.by + tried) b (omega arith)) closed));
     }
 
-    pub end_grown : (room : ℕ) (q : Range) → MovedOut answer t rows end r k room q → room ≡ 0 → Shut q → EndGrown answer t rows end r k q
-    end_grown room q out none shut = grown_at end r within k names q (subst (λ n. MovedOut answer t rows end r k n q) none out) shut
+    pub end_grown : (left : ℕ) (q : Range) → MovedOut answer t rows end r k left q → left ≡ 0 → Shut q → EndGrown answer t rows end r k q
+    end_grown left q out none shut = grown_at end r within k names q (subst (λ n. MovedOut answer t rows end r k n q) none out) shut
 
   -- a row more is grown, counted from 0
   pub grown_next : (r : Range) (place : ℕ) (before lower after : Range) → GrownTo answer t rows r place before → LowGrown answer t rows before (place + 1) lower → HighGrown answer t rows lower (place + 1) after → GrownTo answer t rows r (place + 1) after

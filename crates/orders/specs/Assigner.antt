@@ -40,8 +40,8 @@ module _ {T : Type 0} (answer : T → List Row → ℕ → List Bool → List �
       (MatchOption found (assigned ≡ None) (λ tasks. (assigned ≡ Some (take (length rows) tasks)) × ((p : ℕ) → length rows ≤ p → task_at tasks p ≡ 0)))
 
   -- it finds an order exactly when the range is open, and what it finds lists every row once and passes
-  abbrev pub Settles : Option (List ℕ) → Type 0
-  Settles found = Within rows r → MatchOption found (Closed answer t rows r) (λ tasks. Admits answer t rows r (take (length rows) tasks))
+  abbrev pub FindsIfOpen : Option (List ℕ) → Type 0
+  FindsIfOpen found = Within rows r → MatchOption found (Closed answer t rows r) (λ tasks. Admits answer t rows r (take (length rows) tasks))
 
   -- on each level of an order no lower-numbered unplaced task passes: when the task with p tasks above it is placed, the unplaced ones are the first p + 1 of the order
   abbrev pub LowestNumbered : List ℕ → Type 0

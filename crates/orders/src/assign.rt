@@ -3,7 +3,7 @@ ghost use Rattle.std.specs.Prelude.{◌≡◌, ◌+◌, ◌<◌, ◌≤◌, ◌�
 ghost use Rattle.table.specs.Places.{put};
 ghost use Rattle.table.specs.Rows.{view};
 ghost use Rattle.bounds.specs.Responses.{least_from};
-ghost use Rattle.orders.specs.Assigner.{candidate, full, Assigns, Settles, FillsLowest};
+ghost use Rattle.orders.specs.Assigner.{candidate, full, Assigns, FindsIfOpen, FillsLowest};
 ghost use Rattle.orders.specs.Ranges.{Within};
 ghost use Rattle.orders.specs.Relations.{Relations};
 
@@ -114,7 +114,7 @@ pub(crate) fn high_wanted<T: Test>(
 /// the lowest up, each by the lowest-numbered task left that passes there.
 pub fn assign<T: Test>(test: &T, table: &Table<Row>, range: &Range) -> Option<[usize; 32]>
     ensures rule { Assigns T.answer test.now (view table.now) range.now result }
-    ensures decides { Settles T.answer test.now (view table.now) range.now result }
+    ensures decides { FindsIfOpen T.answer test.now (view table.now) range.now result }
     ensures lowest { FillsLowest T.answer test.now (view table.now) range.now result }
     ensures relations { Relations T.answer test.now (view table.now) }
 {

@@ -1,6 +1,6 @@
 // A range settled: an order that passes it, or its grown form.
 ghost use Rattle.table.specs.Rows.{view};
-ghost use Rattle.orders.specs.Assigner.{Assigns, Settles, FillsLowest};
+ghost use Rattle.orders.specs.Assigner.{Assigns, FindsIfOpen, FillsLowest};
 ghost use Rattle.orders.specs.Growth.{Grown, GivenBack, GrownMaximal, Narrowing};
 ghost use Rattle.orders.specs.Settling.{order_of, grown_of};
 
@@ -14,7 +14,7 @@ use table::rows::Table;
 /// The order that `assign` gives, if it gives one, or else the range that `grow` gives. The assigner is asked about the range once.
 pub fn settle<T: Test>(test: &T, table: &Table<Row>, range: &Range) -> Settled
     ensures order { Assigns T.answer test.now (view table.now) range.now (order_of result) }
-    ensures decides { Settles T.answer test.now (view table.now) range.now (order_of result) }
+    ensures decides { FindsIfOpen T.answer test.now (view table.now) range.now (order_of result) }
     ensures lowest { FillsLowest T.answer test.now (view table.now) range.now (order_of result) }
     ensures grown { Grown T.answer test.now (view table.now) range.now (grown_of range.now result) }
     ensures back { GivenBack T.answer test.now (view table.now) range.now (grown_of range.now result) }

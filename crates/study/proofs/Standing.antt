@@ -10,7 +10,7 @@ use Rattle.bounds.specs.Orders.{Order, Estimates, Holds, HasLate, padded}
 use Rattle.bounds.proofs.Padded.{padded_length, padded_read, padded_at}
 use Rattle.orders.specs.declared.range.Range.{Range}
 use Rattle.orders.specs.Ranges.{as_range, Within, Passes}
-use Rattle.orders.proofs.Audsley.{settles}
+use Rattle.orders.proofs.Audsley.{finds_if_open}
 use Rattle.orders.proofs.Narrows.{narrowing}
 use Rattle.orders.proofs.Related.{related, own_estimates}
 use Rattle.study.specs.declared.finding.Finding.{Finding}
@@ -54,7 +54,7 @@ module _ {T : Type 0} {answer : T → List Row → ℕ → List Bool → List �
   finding_shows taken f full slot finds =
       let order = take (length rows) f.order in
       let lows = take (length rows) taken.lows in
-      let admits = settles laws t rows (lows_of taken) few (Some f.order) finds.0 (lows_within rows taken slot.0) in
+      let admits = finds_if_open laws t rows (lows_of taken) few (Some f.order) finds.0 (lows_within rows taken slot.0) in
       let is : lows_of taken ≡ as_range lows =
       ap (λ (xs : List ℕ). let r : Range = record { lows = xs; highs = xs } in r) (sym (lows_padded (length rows) taken.lows few full.lows slot.1)) in
       let passes : Passes answer t rows (as_range lows) order = subst (λ r. Passes answer t rows r order) is admits.1 in

@@ -5,12 +5,12 @@ ghost use Rattle.bounds.specs.Made.{MadeDa};
 ghost use Rattle.bounds.specs.DaLaws.{da_laws};
 
 use super::Da;
-use crate::load::timely;
 use crate::posed::Posed;
 use crate::processors::Processors;
 use crate::question::Question;
 use crate::test::Test;
 use crate::window::Window;
+use crate::work::timely;
 use table::fault::Fault;
 
 impl Da {

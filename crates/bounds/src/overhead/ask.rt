@@ -6,9 +6,9 @@ ghost use Rattle.bounds.specs.Questions.{timely as timely_bound};
 ghost use Rattle.bounds.specs.OverLaws.{over_laws};
 
 use super::Overhead;
-use crate::load::timely;
 use crate::question::Question;
 use crate::test::Test;
+use crate::work::timely;
 use table::fault::{Fault, Place};
 use table::row::Row;
 

@@ -4,7 +4,7 @@ ghost use Rattle.bounds.specs.Loads.{work, cap_of, carried};
 ghost use Rattle.bounds.specs.Posing.{own_row};
 
 use super::Window;
-use crate::load::work_in;
+use crate::work::work_in;
 use table::row::Row;
 
 impl Window<'_> {

@@ -61,19 +61,20 @@ impl<'a, T: Test> ClosedRange<'a, T> {
         range
     }
 
-    // How far an end is tried to be moved out in a round, with this room left: first all of it. A high is then tried at
-    // the last value at which its task is not placed, and at the next one. After these rounds the room is halved.
-    fn step_in(&self, round: u32, end: End, place: usize, room: u32) -> u32
+    // How far an end is tried to be moved out in a round, with this much left: first all of it. A high is tried in
+    // round 1 at the last value at which its task would not be placed, or as near to it as may be, and in round 2 one
+    // further out than it then stands. In any other round half of what is left is tried.
+    fn tried_in(&self, round: u32, end: End, place: usize, left: u32) -> u32
         requires place { place < length (view self.now.table.now) }
-        requires room { 1 ≤ room }
-        ensures within { (1 ≤ result) × (result ≤ room) }
-        ensures halves { 3 ≤ round → (room ≤ 2 * result) × (2 * result ≤ room + 1) }
+        requires left { 1 ≤ left }
+        ensures within { (1 ≤ result) × (result ≤ left) }
+        ensures halves { 3 ≤ round → (left ≤ 2 * result) × (2 * result ≤ left + 1) }
     {
         match (round, end) {
-            (0, _) => room,
-            (1, End::High) => self.last_closed(place).max(1).min(room),
+            (0, _) => left,
+            (1, End::High) => self.last_closed(place).max(1).min(left),
             (2, End::High) => 1,
-            _ => room.div_ceil(2),
+            _ => left.div_ceil(2),
         }
     }
 
@@ -98,20 +99,20 @@ impl<'a, T: Test> ClosedRange<'a, T> {
             EndGrown T.answer self.entry.test.now rows end self.entry.range (place + 1) result.range }
     {
         let mut grown = self;
-        let mut room = grown.reach(end, place);
-        // A room is below 2^20, and each round from the fourth on leaves at most half of it.
+        let mut left = grown.reach(end, place);
+        // What is left is below 2^20, and each round from the fourth on leaves at most half of it.
         for round in 0..23u32 {
-            if room == 0 {
+            if left == 0 {
                 return grown;
             }
-            let step = grown.step_in(round, end, place, room);
-            let wider = grown.moved(end, place, step);
+            let tried = grown.tried_in(round, end, place, left);
+            let wider = grown.moved(end, place, tried);
             match ClosedRange::new(grown.test, grown.table, wider) {
                 Ok(wider) => {
                     grown = wider;
-                    room -= step;
+                    left -= tried;
                 }
-                Err(_) => room = step - 1,
+                Err(_) => left = tried - 1,
             }
         }
         grown

@@ -1,7 +1,7 @@
 use Rattle.std.proofs.Common.{◌≡◌, ◌*◌, sym, ap, arith}
 use Rattle.bounds.specs.Posing.{own_row}
 use Rattle.bounds.specs.Climbs.{load_of}
-use Rattle.bounds.proofs.Helds.{never_falls}
+use Rattle.bounds.proofs.UncappedLoads.{never_falls}
 use Rattle.bounds.proofs.Skips.{passed_all, turn_found, turn_passed}
 use Rattle.bounds.proofs.climb.least_window.Goals as goal
 
@@ -12,7 +12,7 @@ returns-then-tally-count-clause-found c =
     let wcet : c.wcet-wcet.result ≡ (own_row q).wcet = cc in
     let deadline : c.deadline.result ≡ (own_row q).deadline = cc in
     turn_found c.args.m.count (omega (arith, c.args.m.ok)) (own_row q) load c.loop-cap.cap c.loop-cap.invariant.0 c.loop-cap.invariant.1
-    c.wcet-wcet.result wcet c.held_loads-held.result c.of-tally.result c.held_loads-held.ensures c.of-tally.ensures.sums
+    c.wcet-wcet.result wcet c.uncapped_loads-loads.result c.of-tally.result c.uncapped_loads-loads.ensures c.of-tally.ensures.sums
     (omega (arith, c.loop-cap-test.true, wcet, deadline))
     (omega (arith, c.if-tally-count.true, ap (λ n. n * c.loop-cap.cap) c.count.ensures))
 
@@ -27,8 +27,8 @@ loop-cap-preserved c =
     let next = c.next_cap-cap.ensures in (
       omega (arith, next.rises 0 (omega arith)),
       turn_passed c.args.m.count (omega (arith, c.args.m.ok)) (own_row q) load c.loop-cap.cap c.loop-cap.invariant.0 c.loop-cap.invariant.1
-          c.wcet-wcet.result wcet c.held_loads-held.result c.of-tally.result c.held_loads-held.ensures c.of-tally.ensures.sums
-          c.next_cap-cap.result (next.skips c.held_loads-held.result c.loop-cap.cap c.of-tally.ensures.sums),
+          c.wcet-wcet.result wcet c.uncapped_loads-loads.result c.of-tally.result c.uncapped_loads-loads.ensures c.of-tally.ensures.sums
+          c.next_cap-cap.result (next.skips c.uncapped_loads-loads.result c.loop-cap.cap c.of-tally.ensures.sums),
     )
 
 pub returns-clause-found : goal.returns-clause-found

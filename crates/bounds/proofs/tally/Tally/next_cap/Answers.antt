@@ -8,5 +8,5 @@ returns c =
     let pos : 0 < c.args.m.count = omega (arith, c.args.m.ok) in
     record {
       rises = λ y h. subst (λ z. y < z) (sym next) (next_rises c.args.self c.args.m.count y pos h);
-      skips = λ held y tallied x from below. skips held y c.args.self tallied c.args.m.count x pos from (subst (λ z. x < z) next below);
+      skips = λ loads y tallied x from below. skips loads y c.args.self tallied c.args.m.count x pos from (subst (λ z. x < z) next below);
     }

@@ -3,4 +3,4 @@ use Rattle.bounds.specs.Climbs.{Tallied}
 use Rattle.bounds.proofs.tally.Tally.of.Given as goal
 
 abbrev pub invariant-loop-load : goal.invariant-loop-load
-invariant-loop-load l = Tallied l.held l.load-index l.cap l.tally × (l.tally.least ≤ 2000000)
+invariant-loop-load l = Tallied l.loads l.load-index l.cap l.tally × (l.tally.least ≤ 2000000)

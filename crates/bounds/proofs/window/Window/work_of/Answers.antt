@@ -1,5 +1,5 @@
 use Rattle.std.proofs.Common.{sym, ◌∙◌, rules}
-use Rattle.bounds.proofs.Helds.{above_row, estimate_read, work_carried, work_plain, work_not_above}
+use Rattle.bounds.proofs.UncappedLoads.{above_row, estimate_read, work_carried, work_plain, work_not_above}
 use Rattle.bounds.proofs.window.Window.work_of.Goals as goal
 
 pub returns-then-not-q-place : goal.returns-then-not-q-place

@@ -3,10 +3,10 @@ use Rattle.table.specs.Rows.{view}
 use Rattle.orders.proofs.Grows.{MovedOut}
 use Rattle.orders.proofs.closed.ClosedRange.grow_end.Given as goal
 
--- the same test and table, the end moved out as far as is known to do, and little room left to move it
+-- the same test and table, the end moved out as far as is known to do, and little left to move it
 abbrev pub invariant-loop-round : goal.invariant-loop-round
 invariant-loop-round g l =
     let s = l.fn.self in
     (l.grown.test.now ≡ s.test.now) × (l.grown.table.now ≡ s.table.now)
-    × MovedOut g.T.Test.answer s.test.now (view s.table.now) l.end s.range (l.place + 1) l.room l.grown.range
-    × (l.room < 2 ^ (20 - (l.round - 3)))
+    × MovedOut g.T.Test.answer s.test.now (view s.table.now) l.end s.range (l.place + 1) l.left l.grown.range
+    × (l.left < 2 ^ (20 - (l.round - 3)))

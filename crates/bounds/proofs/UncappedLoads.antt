@@ -1,4 +1,4 @@
--- The loads that are held in a window stand for its load, and for no more than that of a longer one.
+-- The uncapped loads of a window stand for its load, and for no more than that of a longer one.
 use Rattle.std.proofs.Common.{◌≡◌, ℕ, zero, suc, ◌+◌, ◌-◌, ◌<◌, ◌≤◌, min, Bool, true, false, cond, List, Some, None, Option, length, get_or, sym, refl, ap, ◌∙◌, inl, inr, arith}
 use Rattle.std.proofs.lemmas.Bool.{cases_Bool, cases_eq, cond-true, cond-false, both_ways}
 use Rattle.std.proofs.lemmas.List.{get_or_default}
@@ -10,8 +10,8 @@ use Rattle.bounds.specs.declared.posed.Posed.{Posed}
 use Rattle.bounds.specs.Questions.{In}
 use Rattle.bounds.specs.Posing.{own_row}
 use Rattle.bounds.specs.Loads.{work, cap_of, carried, plain, sum_to, total_of, sum_over}
-use Rattle.bounds.specs.Responses.{Choice, Greatest, carried_loads, plain_load, extra, limited_load}
-use Rattle.bounds.specs.Climbs.{load_of, Lists, work_at, Picked, Held, NeverFalls}
+use Rattle.bounds.specs.Responses.{Choice, Greatest, carried_loads, plain_loads, extra, limited_load}
+use Rattle.bounds.specs.Climbs.{load_of, Lists, work_at, Picked, Uncapped, NeverFalls}
 use Rattle.bounds.specs.Greatests.{greatest_is, greatest_one}
 use Rattle.bounds.specs.Sums.{sum_same, sum_mono, sum_add, over_mono}
 use Rattle.bounds.specs.Works.{work_mono}
@@ -68,9 +68,9 @@ module _ (q : Posed) where
     | inr z ↦ cond-false _ (f k) 0 z
   ])
 
-  module _ (l : ℕ) (held : List ℕ) (lists : Lists (work_at q l true) held) where
-    pub held_all : Held (carried_loads q.rows.now q.task q.above.now q.estimates.now) (own_row q) l held
-    held_all =
+  module _ (l : ℕ) (loads : List ℕ) (lists : Lists (work_at q l true) loads) where
+    pub uncapped_all : Uncapped (carried_loads q.rows.now q.task q.above.now q.estimates.now) (own_row q) l loads
+    uncapped_all =
         let carry : ℕ → ℕ → ℕ = λ l' k. carried (own_row q) l' (row q.rows.now k) (nth q.estimates.now k 0) in
         record {
           here =
@@ -80,7 +80,7 @@ module _ (q : Posed) where
               ])
               ∙ sum_rows (carry l);
           later = λ l' h.
-              let le = sum_mono (λ k. min (nth held k 0) (cap_of (own_row q) l')) (λ k. cond (nth q.above.now k false) (carry l' k) 0) 32 (λ k low high. elim (cases_Bool (nth q.above.now k false)) [
+              let le = sum_mono (λ k. min (nth loads k 0) (cap_of (own_row q) l')) (λ k. cond (nth q.above.now k false) (carry l' k) 0) 32 (λ k low high. elim (cases_Bool (nth q.above.now k false)) [
                 | inl y ↦ omega (arith, lists k low high, cond-true (nth q.above.now k false) (full l k) 0 y, cond-true (nth q.above.now k false) (carry l' k) 0 y, work_mono (row q.rows.now k) (l + nth q.estimates.now k 0 - (row q.rows.now k).wcet) (l' + nth q.estimates.now k 0 - (row q.rows.now k).wcet) (omega arith))
                 | inr z ↦ omega (arith, lists k low high, cond-false (nth q.above.now k false) (full l k) 0 z)
               ]) in
@@ -89,13 +89,13 @@ module _ (q : Posed) where
 
 -- At most c tasks carry load in: the chosen ones.
 module _ (q : Posed) (c l : ℕ)
-    (with' without extras : List ℕ) (chosen : List Bool) (held : List ℕ)
+    (with' without extras : List ℕ) (chosen : List Bool) (loads : List ℕ)
     (carries : Lists (work_at q l true) with')
     (plains : Lists (work_at q l false) without)
     (cap : ℕ) (cap_is : cap ≡ cap_of (own_row q) l)
     (gains : Lists (λ k. min (nth with' k 0) cap - min (nth without k 0) cap) extras)
     (picked : Picked extras c chosen)
-    (mixes : Lists (λ k. cond (nth chosen k false) (nth with' k 0) (nth without k 0)) held) where
+    (mixes : Lists (λ k. cond (nth chosen k false) (nth with' k 0) (nth without k 0)) loads) where
   abbrev is_chosen : ℕ → Bool
   is_chosen k = nth chosen k false
 
@@ -158,11 +158,11 @@ module _ (q : Posed) (c l : ℕ)
     exceeded = λ p h. omega (arith, picked.best p (omega (arith, h.few, total_rows p h.inside (λ _. 1))), gain_same p h.inside, gain_same is_chosen choice.inside);
   }
 
-  -- a held load in a window, and in a longer one
+  -- a task's part of the load in a window, and in a longer one
   part : (l' k : ℕ) → ℕ
   part l' k = cond (above k) (plain_part l' k) 0 + cond (is_chosen k) (gain l' k) 0
 
-  part_later : (l' : ℕ) → l ≤ l' → (k : ℕ) → 1 ≤ k → k ≤ 32 → min (nth held k 0) (cap_of (own_row q) l') ≤ part l' k
+  part_later : (l' : ℕ) → l ≤ l' → (k : ℕ) → 1 ≤ k → k ≤ 32 → min (nth loads k 0) (cap_of (own_row q) l') ≤ part l' k
   unfolding part
   part_later l' h k a b =
       elim (cases_Bool (is_chosen k)) [
@@ -175,7 +175,7 @@ module _ (q : Posed) (c l : ℕ)
         ]
       ]
 
-  part_here : (k : ℕ) → 1 ≤ k → k ≤ 32 → part l k ≤ min (nth held k 0) (cap_of (own_row q) l)
+  part_here : (k : ℕ) → 1 ≤ k → k ≤ 32 → part l k ≤ min (nth loads k 0) (cap_of (own_row q) l)
   unfolding part
   part_here k a b =
       elim (cases_Bool (is_chosen k)) [
@@ -188,17 +188,17 @@ module _ (q : Posed) (c l : ℕ)
         ]
       ]
 
-  parts : (l' : ℕ) → sum_to (part l') 32 ≡ plain_load q.rows.now q.task q.above.now l' + total_of is_chosen (gain l') (length q.rows.now)
+  parts : (l' : ℕ) → sum_to (part l') 32 ≡ plain_loads q.rows.now q.task q.above.now l' + total_of is_chosen (gain l') (length q.rows.now)
   unfolding part
   parts l' = omega (arith, sum_add (λ k. cond (above k) (plain_part l' k) 0) (λ k. cond (is_chosen k) (gain l' k) 0) 32, sum_rows q (plain_part l'), total_rows is_chosen choice.inside (gain l'))
 
-  pub held_limited : Held (limited_load c q.rows.now q.task q.above.now q.estimates.now) (own_row q) l held
-  held_limited = record {
+  pub uncapped_limited : Uncapped (limited_load c q.rows.now q.task q.above.now q.estimates.now) (own_row q) l loads
+  uncapped_limited = record {
     here =
         let most = greatest_one q.above.now (gain l) c (length q.rows.now) _ _ gain_greatest (greatest_is q.above.now (gain l) c (length q.rows.now)) in
-        omega (arith, sum_mono (λ k. min (nth held k 0) (cap_of (own_row q) l)) (part l) 32 (part_later l (omega arith)), sum_mono (part l) (λ k. min (nth held k 0) (cap_of (own_row q) l)) 32 part_here, parts l, most);
+        omega (arith, sum_mono (λ k. min (nth loads k 0) (cap_of (own_row q) l)) (part l) 32 (part_later l (omega arith)), sum_mono (part l) (λ k. min (nth loads k 0) (cap_of (own_row q) l)) 32 part_here, parts l, most);
     later = λ l' h.
-        omega (arith, sum_mono (λ k. min (nth held k 0) (cap_of (own_row q) l')) (part l') 32 (part_later l' h), parts l', (greatest_is q.above.now (gain l') c (length q.rows.now)).exceeded is_chosen choice);
+        omega (arith, sum_mono (λ k. min (nth loads k 0) (cap_of (own_row q) l')) (part l') 32 (part_later l' h), parts l', (greatest_is q.above.now (gain l') c (length q.rows.now)).exceeded is_chosen choice);
   }
 
 -- a longer window has no less load, whoever carries load in

@@ -1,6 +1,6 @@
 use Rattle.std.proofs.Common.{arith}
 use Rattle.bounds.specs.Works.{whole_le}
-use Rattle.bounds.proofs.load.work_in.Goals as goal
+use Rattle.bounds.proofs.work.work_in.Goals as goal
 
 pub overflow_mul-result : goal.overflow_mul-result
 overflow_mul-result c = omega (arith, whole_le c.args.q c.period-period.result c.wcet-wcet.result (omega (arith, c.args.row.ok, c.wcet-wcet.ensures, c.period-period.ensures)))

@@ -1,7 +1,7 @@
 use Rattle.std.proofs.Common.{false, cond, get_or, rules}
 use Rattle.table.proofs.Placed.{nth_next}
 use Rattle.bounds.proofs.Filled.{filled}
-use Rattle.bounds.proofs.window.held.mixed.Goals as goal
+use Rattle.bounds.proofs.window.uncapped.mixed.Goals as goal
 
 pub returns : goal.returns
 returns c =

@@ -1,12 +1,12 @@
 // The loads of the tasks above in a window, before the cap.
 ghost use Rattle.std.specs.Prelude.{◌≡◌, ◌+◌, ◌-◌, ◌<◌, min, false, if◌then◌else◌};
 ghost use Rattle.table.specs.Places.{nth};
-ghost use Rattle.bounds.specs.Climbs.{load_of, Held, Lists, work_at};
+ghost use Rattle.bounds.specs.Climbs.{load_of, Uncapped, Lists, work_at};
 ghost use Rattle.bounds.specs.Posing.{own_row};
 
 use super::Window;
-use crate::load::work_in;
 use crate::picks::picks;
+use crate::work::work_in;
 use std::array;
 
 // What each task adds to its plain load by carrying load in, both held to the cap.
@@ -59,8 +59,8 @@ impl Window<'_> {
     }
 
     // At most `limit` of the loads are carried and the others plain; without a limit all are carried.
-    pub(crate) fn held_loads(&self, limit: Option<u32>) -> [u32; 32]
-        ensures { Held (load_of limit self.now.posed) (own_row self.now.posed) self.now.length result }
+    pub(crate) fn uncapped_loads(&self, limit: Option<u32>) -> [u32; 32]
+        ensures { Uncapped (load_of limit self.now.posed) (own_row self.now.posed) self.now.length result }
     {
         let carried = self.works(true);
         let Some(limit) = limit else {

@@ -1,7 +1,7 @@
 use Rattle.std.proofs.Common.{◌-◌, min, get_or, rules}
 use Rattle.table.proofs.Placed.{nth_next}
 use Rattle.bounds.proofs.Filled.{filled}
-use Rattle.bounds.proofs.window.held.extras_of.Goals as goal
+use Rattle.bounds.proofs.window.uncapped.extras_of.Goals as goal
 
 pub returns : goal.returns
 returns c =
