@@ -8,12 +8,13 @@ use std::io;
 use std::io::Write;
 use std::process::ExitCode;
 
-const FOLDERS: [&str; 6] = [
+const FOLDERS: [&str; 7] = [
     "worked",
     "none",
     "stopped",
     "wrapping-2",
     "wrapping-4",
+    "full",
     "fault",
 ];
 

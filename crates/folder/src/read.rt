@@ -1,5 +1,5 @@
 // The text of a sheet, from a file.
-ghost use Rattle.std.specs.Prelude.{◌≡◌, take, IfOk, IfErr, IfSome};
+ghost use Rattle.std.specs.Prelude.{◌≡◌, [], take, Ok, Err, IfOk, IfErr, IsOkAnd, IfSome};
 ghost use Rattle.std.specs.IoError.{error_kind};
 
 use std::alloc::Global;
@@ -28,12 +28,22 @@ fn open_start<R: Files + AllocGlobal>(rt: &R, path: &str) -> io::Result<Vec<u8>>
     }
 }
 
+// What was read, or no byte where reading failed, unless for want of memory.
+fn or_empty(alloc: Global, read: io::Result<Vec<u8>>) -> io::Result<Vec<u8>>
+    ensures read { IfOk read (λ text. result ≡ Ok text) }
+    ensures failed { IfErr read (λ error. (error_kind error ≡ ErrorKind.OutOfMemory → ⊥) → IsOkAnd result (λ text. text.items ≡ [])) }
+    ensures memory { IfErr read (λ error. error_kind error ≡ ErrorKind.OutOfMemory → result ≡ Err error) }
+    ensures alone { IfErr result (λ error. error_kind error ≡ ErrorKind.OutOfMemory) }
+{
+    match read {
+        Err(error) if error.kind() != ErrorKind::OutOfMemory => Ok(Vec::new(alloc)),
+        read => read,
+    }
+}
+
 /// The text of the sheet in a file: empty where the file cannot be read.
 pub fn read_sheet<R: Files + AllocGlobal>(rt: &R, path: &str) -> io::Result<Vec<u8>>
     ensures { IfErr result (λ error. error_kind error ≡ ErrorKind.OutOfMemory) }
 {
-    match open_start(rt, path) {
-        Err(error) if error.kind() != ErrorKind::OutOfMemory => Ok(Vec::new(rt.alloc())),
-        read => read,
-    }
+    or_empty(rt.alloc(), open_start(rt, path))
 }

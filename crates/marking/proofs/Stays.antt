@@ -102,7 +102,8 @@ module _ (t : Overhead NamedTest) (tasks : Sheet) (before after : Study) (search
         estimates = take n f.estimates;
         each = shown.0;
         holds = shown.1;
-        passes = shown.2;
+        lie = shown.2;
+        passes = shown.3;
         many = same;
         named = λ k low high. levels.named k low high ∙ ap (task_of tasks) (sym (placed k low high));
         estimated = λ k low high.

@@ -8,7 +8,7 @@ use Rattle.bounds.specs.declared.overhead.Overhead.{Overhead}
 use Rattle.bounds.specs.declared.named.NamedTest.{NamedTest}
 use Rattle.bounds.specs.declared.miss.Miss.{Miss}
 use Rattle.bounds.specs.Named.{named_answer}
-use Rattle.bounds.specs.Orders.{Order, Holds, HasLate, FirstMiss}
+use Rattle.bounds.specs.Orders.{Order, Estimates, Holds, HasLate, FirstMiss}
 use Rattle.bounds.specs.Overheads.{over_answer}
 use Rattle.orders.specs.Ranges.{as_range, Passes}
 use Rattle.study.specs.declared.study.Study.{Study}
@@ -133,12 +133,13 @@ pub record CaseOf (board tasks answer : Sheet) (case : Case) : Type 0 where
   pub estimated : EstimatesOf answer case.order case.estimates (count_of answer)
   pub size : length case.estimates ≡ 32
 
--- The levels show an order of the rows, and an estimate for each: no task of the order is late, and it passes the estimates.
+-- The levels show an order of the rows, and an estimate for each, from its C to its D: no task of the order is late, and it passes the estimates.
 pub record ShowsOrder (t : Overhead NamedTest) (tasks : Sheet) (rows : List Row) (r : Report) : Type 0 where
   pub order : List ℕ
   pub estimates : List ℕ
   pub each : Order (length rows) order
   pub holds : Holds board_answer t rows order
+  pub lie : Estimates rows estimates
   pub passes : Passes board_answer t rows (as_range estimates) order
   pub many : r.levels ≡ length rows
   pub named : EachLine (λ k. nth (names_of r) k [] ≡ task_of tasks (nth order k 0)) r.levels

@@ -49,7 +49,7 @@ estimates_within rows es few est k names =
     (omega (arith, same, at.0), omega arith, omega (arith, same, at.1))
 
 module _ {T : Type 0} {answer : T → List Row → ℕ → List Bool → List ℕ → Option ℕ} (laws : Laws answer) (t : T) (rows : List Row) (few : length rows ≤ 32) where
-  -- the order that is found for the list of a range's lows lists every row once, holds and passes them
+  -- the order that is found for the list of a range's lows lists every row once, holds and passes them; they are estimates of the rows
   pub finding_shows : (taken : Range) (f : Finding) → Full taken → IsSlot rows taken → Finds answer t rows taken f → Shows answer t rows f
   finding_shows taken f full slot finds =
       let order = take (length rows) f.order in
@@ -59,8 +59,8 @@ module _ {T : Type 0} {answer : T → List Row → ℕ → List Bool → List �
       ap (λ (xs : List ℕ). let r : Range = record { lows = xs; highs = xs } in r) (sym (lows_padded (length rows) taken.lows few full.lows slot.1)) in
       let passes : Passes answer t rows (as_range lows) order = subst (λ r. Passes answer t rows r order) is admits.1 in
       let holds = (related laws t rows few).below order lows admits.0 (lows_estimates rows taken few full slot.0) passes in
-      let shown = subst (λ es. Passes answer t rows (as_range (take (length rows) es)) order) (sym finds.1) passes in
-      (admits.0, (holds.0, holds.1), shown)
+      let shown = subst (λ es. Estimates rows (take (length rows) es) × Passes answer t rows (as_range (take (length rows) es)) order) (sym finds.1) (lows_estimates rows taken few full slot.0, passes) in
+      (admits.0, (holds.0, holds.1), shown.0, shown.1)
 
   -- where barred ranges hold every list of estimates, every order has a late task
   pub every_late : (n : ℕ) (l : List ℕ) → AllBarred answer t rows n l → ((es : List ℕ) → Estimates rows es → Holding rows l n es) → (order : List ℕ) → Order (length rows) order → HasLate answer t rows order

@@ -54,11 +54,12 @@ module _ {T : Type 0} (answer : T → List Row → ℕ → List Bool → List �
     -- a refused step, on any lists: those at hand stay
     no_step : {m : Moment} {c : Since} → History m c → (l p : List ℕ) (after : Moment) (e : Fault) → Steps answer t (moment m.study l p) (Err e) after → History (moment after.study m.ledger m.pending) (other c)
 
-  -- what is shown on found: the order lists every row once, no task of it is late, and it passes the estimates
+  -- what is shown on found: the order lists every row once, and no task of it is late; each estimate lies from its row's C to its D, and the order passes them
   abbrev pub Shows : List Row → Finding → Type 0
   Shows rows f =
       let order = take (length rows) f.order in
-      Order (length rows) order × Holds answer t rows order × Passes answer t rows (as_range (take (length rows) f.estimates)) order
+      let estimates = take (length rows) f.estimates in
+      Order (length rows) order × Holds answer t rows order × Estimates rows estimates × Passes answer t rows (as_range estimates) order
 
   -- What a verdict and a ledger mean.
   pub record Means (m : Moment) : Type 0 where
