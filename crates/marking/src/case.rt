@@ -2,7 +2,7 @@
 ghost use Rattle.std.specs.Prelude.{◌≡◌, ◌≤◌, Ok, MatchResult};
 ghost use Rattle.table.specs.Rows.{view};
 ghost use Rattle.sheets.specs.declared.sheet.Sheet.{Sheet as OneSheet};
-ghost use Rattle.sheets.specs.declared.form.Form.TheVariants.{Board, Tasks, Answer as Given};
+ghost use Rattle.sheets.specs.declared.form.Form.TheVariants.{Board, Tasks, Answer};
 ghost use Rattle.sheets.specs.Pairs.{count_of};
 ghost use Rattle.sheets.specs.Sheets.{IsFull};
 ghost use Rattle.marking.specs.Questions.{SheetsMiss};
@@ -11,7 +11,7 @@ ghost use Rattle.marking.specs.declared.report.Report.{Report as OneReport};
 ghost use Rattle.marking.specs.Reports.{CaseOf, ChecksAnswer, Reports};
 
 use crate::board::test_of;
-use crate::claims::estimates_of;
+use crate::estimates::estimates_of;
 use crate::report::{Outcome, Report};
 use crate::rows::study_of;
 use crate::shown::{outcome_of, report_of, search};
@@ -41,7 +41,7 @@ impl Case {
     ) -> Result<Case, Fault>
         requires board { (board.now.form ≡ Board) × (count_of board.now ≡ 1) × IsFull board.now }
         requires tasks { (tasks.now.form ≡ Tasks) × IsFull tasks.now }
-        requires answer { (answer.now.form ≡ Given) × IsFull answer.now }
+        requires answer { (answer.now.form ≡ Answer) × IsFull answer.now }
         ensures { MatchResult result (λ case. CaseOf board.now tasks.now answer.now case) (λ fault. SheetsMiss board.now tasks.now answer.now fault) }
     {
         let test = test_of(board)?;

@@ -2,7 +2,7 @@
 
 mod board;
 mod case;
-mod claims;
+mod estimates;
 mod fields;
 pub mod mark;
 pub mod print;

@@ -14,7 +14,7 @@ use Rattle.sheets.specs.declared.form.Column.TheVariants.{Processors, Overhead, 
 use Rattle.sheets.specs.declared.form.Form.{Form}
 use Rattle.sheets.specs.Forms.{name_of, kind_of, most_of, place}
 use Rattle.sheets.specs.Texts.{IsText, parts}
-use Rattle.sheets.specs.Reading.{IsSized, Heads, HasNames, IsOfKind, AllowedCount, IsValueLine, field, SameCount, Conforms, line_at_fault, MissedIn, Missed, is_late, IsFirst, IsSheet}
+use Rattle.sheets.specs.Reading.{IsSized, Heads, HasNames, IsOfKind, AllowedCount, IsValueLine, field, SameCount, Conforms, line_at_fault, MissedIn, Missed, is_last, IsFirst, IsSheet}
 use Rattle.sheets.specs.Lines.{FitsAt, Misses, FirstFit, LinesMiss}
 use Rattle.sheets.proofs.Parts.{get_or-map}
 use Rattle.sheets.proofs.Columns.{one_column}
@@ -89,7 +89,7 @@ module _ (form : Form) (first : List ℕ) (ls : List (List ℕ)) where
     kind_to k j v low inside h = conforms_to (parts 32 first) (line k) columns heads.named (j - 1) inside (λ c is. subst (IsOfKind (kind_of c)) (field_at k j v low) (h c (heading_at j low ∙ is)))
 
     -- where the lines and fields that are asked miss nothing, no early question is missed
-    no_miss : (f : Fault) → is_late f ≡ 0 → ((k : ℕ) → IsValueLine seen k → (place_of f).line ≡ k → (place_of f).field ≡ 0 → SameCount seen k) → ((k j : ℕ) → IsValueLine seen k → 1 ≤ j → j ≤ length (nth seen k []) → (place_of f).line ≡ k → (place_of f).field ≡ j → Conforms seen k j) → MissedIn form seen f → ⊥
+    no_miss : (f : Fault) → is_last f ≡ 0 → ((k : ℕ) → IsValueLine seen k → (place_of f).line ≡ k → (place_of f).field ≡ 0 → SameCount seen k) → ((k j : ℕ) → IsValueLine seen k → 1 ≤ j → j ≤ length (nth seen k []) → (place_of f).line ≡ k → (place_of f).field ≡ j → Conforms seen k j) → MissedIn form seen f → ⊥
     no_miss (BadNames p) early counts kinds m = m.1 (columns, subst (λ l. Heads form l columns) (sym first_at) heads)
     no_miss (BadFieldCount p) early counts kinds m = m.3 (counts m.0 m.2 (ap (λ (q : Place). q.line) m.1) (ap (λ (q : Place). q.field) m.1))
     no_miss (BadField p) early counts kinds m = m.6 (kinds m.0 m.1 m.3 m.4 m.5 (ap (λ (q : Place). q.line) m.2) (ap (λ (q : Place). q.field) m.2))
@@ -105,7 +105,7 @@ same_test : (n m : ℕ) → m ≡ suc n → (n == 0) ≡ (m == 1)
 same_test n m e = grind (arith, nat_tests)
 
 pub text_first : (form : Form) (text : List ℕ) → (IsSized text → ⊥) → IsFirst form text (BadText (place form 0 0))
-text_first form text bad = ((refl, bad), λ other b m. let e = earlier (is_late other) (place_of other).line (place_of other).field 0 0 b in elim e.1 [ inl l ↦ omega arith | inr l ↦ omega (arith, l.1) ])
+text_first form text bad = ((refl, bad), λ other b m. let e = earlier (is_last other) (place_of other).line (place_of other).field 0 0 b in elim e.1 [ inl l ↦ omega arith | inr l ↦ omega (arith, l.1) ])
 
 module _ (form : Form) (text : List ℕ) (first : List ℕ) (ls : List (List ℕ)) (sized : IsSized text) (is_text : IsText text (seen form first ls)) where
   abbrev all : List (List (List ℕ))
@@ -119,7 +119,7 @@ module _ (form : Form) (text : List ℕ) (first : List ℕ) (ls : List (List ℕ
   in_all (BadLineCount p) m = subst (λ l. MissedIn form l (BadLineCount p)) (one_text text m.0 all m.1 is_text) m.2
   in_all f m = m.2
 
-  in_line_0 : (f : Fault) → is_late f ≡ 0 → (place_of f).line < 1 → MissedIn form all f → ⊥
+  in_line_0 : (f : Fault) → is_last f ≡ 0 → (place_of f).line < 1 → MissedIn form all f → ⊥
   in_line_0 (BadNames p) early low m = omega (arith, ap (λ (q : Place). q.line) m.0)
   in_line_0 (BadFieldCount p) early low m = omega (arith, ap (λ (q : Place). q.line) m.1, m.2.0)
   in_line_0 (BadField p) early low m = omega (arith, ap (λ (q : Place). q.line) m.2, m.3.0)
@@ -131,7 +131,7 @@ module _ (form : Form) (text : List ℕ) (first : List ℕ) (ls : List (List ℕ
   names_first bad = (
     (all, is_text, (refl, λ h. bad (subst (HasNames form) (first_at form first ls) h))),
     λ other b m.
-        let e = earlier (is_late other) (place_of other).line (place_of other).field 1 0 b in
+        let e = earlier (is_last other) (place_of other).line (place_of other).field 1 0 b in
         elim e.1 [ inl l ↦ in_line_0 other e.0 l (in_all other m) | inr l ↦ omega (arith, l.1) ],
   )
 
@@ -154,7 +154,7 @@ module _ (form : Form) (text : List ℕ) (first : List ℕ) (ls : List (List ℕ
         subst (IsFirst form text) (sym m.1) (
           (all, is_text, (i + 2, refl, v, λ same. m.0 (count_to form first ls columns heads (i + 2) v same))),
           λ other b missed.
-              let e = earlier (is_late other) (place_of other).line (place_of other).field (i + 2) 0 b in
+              let e = earlier (is_last other) (place_of other).line (place_of other).field (i + 2) 0 b in
               let low : (place_of other).line < i + 2 = elim e.1 [ inl l ↦ l | inr l ↦ absurd (omega (arith, l.1)) ] in
               no_miss form first ls columns heads other e.0
               (λ k w line_is field_is. count_before i fit k (omega arith) w)
@@ -168,7 +168,7 @@ module _ (form : Form) (text : List ℕ) (first : List ℕ) (ls : List (List ℕ
         subst (IsFirst form text) (sym m.2) (
           (all, is_text, (i + 2, j + 1, refl, v, omega arith, omega (arith, m.3), λ conforms. m.5 (subst (FitsAt columns (line form first ls (i + 2))) (let e : j + 1 - 1 ≡ j = omega arith in e) (kind_to form first ls columns heads (i + 2) (j + 1) v (omega arith) (omega (arith, m.3)) conforms)))),
           λ other b missed.
-              let e = earlier (is_late other) (place_of other).line (place_of other).field (i + 2) (j + 1) b in
+              let e = earlier (is_last other) (place_of other).line (place_of other).field (i + 2) (j + 1) b in
               no_miss form first ls columns heads other e.0
               (λ k w line_is field_is. elim e.1 [
                 | inl l ↦ count_before i fit k (omega arith) w
@@ -181,9 +181,9 @@ module _ (form : Form) (text : List ℕ) (first : List ℕ) (ls : List (List ℕ
               (in_all other missed),
         )
 
-    place_late : (f : Fault) → is_late f ≡ 1 → MissedIn form all f → (place_of f ≡ place form (line_at_fault form all) 0)
-    place_late (BadLineCount p) late m = m.0
-    place_late f late m = absurd (omega (arith, late))
+    place_last : (f : Fault) → is_last f ≡ 1 → MissedIn form all f → (place_of f ≡ place form (line_at_fault form all) 0)
+    place_last (BadLineCount p) late m = m.0
+    place_last f late m = absurd (omega (arith, late))
 
     -- the value lines miss a question
     pub lines_first : (fault : Fault) → LinesMiss form columns ls fault → IsFirst form text fault
@@ -198,7 +198,7 @@ module _ (form : Form) (text : List ℕ) (first : List ℕ) (ls : List (List ℕ
                 (λ k j w one more line_is field_is. kind_before (length ls) m.0 k j (omega (arith, w.1, length-map ls (parts 32))) w one more)
                 (in_all other missed)
             | inr late ↦
-                let here = place_late other late.0 (in_all other missed) in
+                let here = place_last other late.0 (in_all other missed) in
                 elim late.1 [
                   | inl l ↦ omega (arith, ap (λ (q : Place). q.line) here, ap (λ (q : Place). q.line) at)
                   | inr l ↦ omega (arith, l.1)

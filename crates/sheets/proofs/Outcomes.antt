@@ -8,7 +8,7 @@ use Rattle.table.specs.declared.fault.Fault.TheVariants.{BadText, BadNames, BadF
 use Rattle.table.specs.declared.fault.Place.{Place}
 use Rattle.sheets.specs.declared.form.Form.{Form}
 use Rattle.sheets.specs.Forms.{sheet_of}
-use Rattle.sheets.specs.Reading.{Missed, is_late, Before, IsFirst}
+use Rattle.sheets.specs.Reading.{Missed, is_last, Before, IsFirst}
 
 -- the number of a question by where it is missed
 number_at : ℕ → ℕ → ℕ → ℕ
@@ -55,7 +55,7 @@ module _ (form : Form) (text : List ℕ) where
   abbrev field_of : Place → ℕ
   field_of p = p.field
 
-  number_is : (f : Fault) → Missed form text f → number_of f ≡ number_at (is_late f) (place_of f).line (place_of f).field
+  number_is : (f : Fault) → Missed form text f → number_of f ≡ number_at (is_last f) (place_of f).line (place_of f).field
   number_is (BadText p) m = first_number 0 p.line p.field refl (ap line_of m.0)
   number_is (BadNames p) m = second_number 0 p.line p.field refl (ap line_of m.2.0)
   number_is (BadFieldCount p) m = third_number 0 p.line p.field refl (omega (arith, ap line_of m.2.1, m.2.2.0)) (ap field_of m.2.1)
@@ -84,10 +84,10 @@ module _ (form : Form) (text : List ℕ) where
   one_first f g u v =
       let before : Before f g → ⊥ = λ b. v.1 f b u.0 in
       let behind : Before g f → ⊥ = λ b. u.1 g b v.0 in
-      let late = level (is_late f) (is_late g) (λ l. before (inl l)) (λ l. behind (inl l)) in
+      let late = level (is_last f) (is_last g) (λ l. before (inl l)) (λ l. behind (inl l)) in
       let line = level (place_of f).line (place_of g).line (λ l. before (inr (late, inl l))) (λ l. behind (inr (sym late, inl l))) in
       let field = level (place_of f).field (place_of g).field (λ l. before (inr (late, inr (line, l)))) (λ l. behind (inr (sym late, inr (sym line, l)))) in
-      let number = number_is f u.0 ∙ ap (λ a. number_at a (place_of f).line (place_of f).field) late ∙ ap (λ a. number_at (is_late g) a (place_of f).field) line ∙ ap (number_at (is_late g) (place_of g).line) field ∙ sym (number_is g v.0) in
+      let number = number_is f u.0 ∙ ap (λ a. number_at a (place_of f).line (place_of f).field) late ∙ ap (λ a. number_at (is_last g) a (place_of f).field) line ∙ ap (number_at (is_last g) (place_of g).line) field ∙ sym (number_is g v.0) in
       made_by f u.0 ∙ ap (λ n. fault_of n (place_of f)) number
       ∙ ap (fault_of (number_of g)) (same_place (place_of f) (place_of g) (sheet_is f u.0 ∙ sym (sheet_is g v.0)) line field)
       ∙ sym (made_by g v.0)

@@ -69,15 +69,15 @@ Missed form text (BadText p) = (p ≡ place form 0 0) × (IsSized text → ⊥)
 Missed form text fault = (lines : List (List (List ℕ))) × IsText text lines × MissedIn form lines fault
 
 -- 1 for question 5, which is asked when all lines are read; 0 for the others
-abbrev pub is_late : Fault → ℕ
-is_late (BadLineCount p) = 1
-is_late fault = 0
+abbrev pub is_last : Fault → ℕ
+is_last (BadLineCount p) = 1
+is_last fault = 0
 
 -- One fault comes before another: question 5 is asked last; of the others that of the lower line is asked first, and in a line that of the whole line (field 0) before those of its fields, from left to right.
 abbrev pub Before : Fault → Fault → Type 0
 Before f g =
-    (is_late f < is_late g)
-    ⊎ ((is_late f ≡ is_late g) × (((place_of f).line < (place_of g).line) ⊎ (((place_of f).line ≡ (place_of g).line) × ((place_of f).field < (place_of g).field))))
+    (is_last f < is_last g)
+    ⊎ ((is_last f ≡ is_last g) × (((place_of f).line < (place_of g).line) ⊎ (((place_of f).line ≡ (place_of g).line) × ((place_of f).field < (place_of g).field))))
 
 -- the fault is the first of a text: its question is missed at its place, and no fault that comes before is missed
 abbrev pub IsFirst : Form → List ℕ → Fault → Type 0

@@ -88,7 +88,7 @@ impl Column {
         }
     }
 
-    /// Whether it is the other column: then it has its name.
+    /// Whether it is the other column, which is so exactly when both have one name.
     pub(crate) fn is(self, other: Column) -> bool
         ensures { result ≡ bytes_eq (name_of self) (name_of other) }
     {

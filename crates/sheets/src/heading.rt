@@ -15,7 +15,7 @@ fn has(given: &[Column], column: Column) -> bool
     given.contains(&column)
 }
 
-// Whether the form's columns are all of the list, and each is there.
+// Whether the list has as many columns as the form, and each of these.
 fn are_columns(form: Form, given: &[Column]) -> bool
     ensures { IsTrue result ↔ ((length given.now ≡ length (columns_of form)) × All (Contains given.now) (columns_of form)) }
 {

@@ -2,7 +2,7 @@ use Rattle.std.proofs.Common.{◌≡◌, length}
 use Rattle.sheets.specs.Pairs.{EachLine}
 use Rattle.marking.specs.Questions.{HasEstimate}
 use Rattle.marking.specs.Reports.{EstimatesOf}
-use Rattle.marking.proofs.claims.estimates_of.Given as goal
+use Rattle.marking.proofs.estimates.estimates_of.Given as goal
 
 abbrev pub invariant-loop-i : goal.invariant-loop-i
 invariant-loop-i l = record {

@@ -9,7 +9,7 @@ use Rattle.sheets.proofs.Paired.{each_more, first_line}
 use Rattle.marking.specs.Questions.{HasEstimate}
 use Rattle.marking.proofs.Full.{wcet_there, deadline_there, estimate_there, has_field, has_number}
 use Rattle.marking.proofs.Claimed.{row_here, row_few, estimate_lies, estimate_not, held_more}
-use Rattle.marking.proofs.claims.estimates_of.Goals as goal
+use Rattle.marking.proofs.estimates.estimates_of.Goals as goal
 
 pub number-wcet-requires : goal.number-wcet-requires
 number-wcet-requires c =
