@@ -20,7 +20,7 @@ use Rattle.study.specs.declared.state.State.TheVariants as state
 use Rattle.study.specs.Counts.{verdicts, finding_in}
 use Rattle.study.specs.Moments.{Moment, rows_of}
 use Rattle.study.specs.Begins.{HasRoom}
-use Rattle.study.specs.Histories.{Shows}
+use Rattle.study.specs.Histories.{Shown}
 use Rattle.study.specs.Steps.{Stepped, none, keeps, keep_stops, finds, splits, split_stops}
 use Rattle.study.specs.Searches.{Leads, begins, steps}
 use Rattle.study.proofs.Lawful.{KeepsAt, begun_keeps, stepped_keeps, begin_accepted, step_accepted, ready}
@@ -60,8 +60,8 @@ module _ (t : Overhead NamedTest) where
     pub last_rows : rows_of search.last ≡ view before.table
     last_rows = ap (λ (s : Study). view s.table) search.ends ∙ ap (λ (u : Table Row). view u) same_table
 
-    shown_order : (f : Finding) → after.state ≡ state.Found f → Shows board_answer t (view before.table) f
-    shown_order f is = subst (λ rows. Shows board_answer t rows f) last_rows (search.means.found f (ap (λ (s : Study). s.state) search.ends ∙ is))
+    shown_order : (f : Finding) → after.state ≡ state.Found f → Shown board_answer t (view before.table) f
+    shown_order f is = subst (λ rows. Shown board_answer t rows f) last_rows (search.means.found f (ap (λ (s : Study). s.state) search.ends ∙ is))
 
     every_late : after.state ≡ state.None → (order : List ℕ) → Order (length (view before.table)) order → HasLate board_answer t (view before.table) order
     every_late is = subst (λ rows. (order : List ℕ) → Order (length rows) order → HasLate board_answer t rows order) last_rows (search.means.none (ap (λ (s : Study). s.state) search.ends ∙ is))

@@ -61,6 +61,7 @@ module _ (tasks answer : Sheet) (new : EachLine (IsNewName tasks) (count_of task
   each_row_once rows named = (
     omega (arith, few_answers, few_tasks),
     λ k l a b d e is. same_line answer (count_of answer) fresh k l a b d e (sym (named.named k a b).2 ∙ ap (task_of tasks) is ∙ (named.named l d e).2),
+    λ k low high. let at = named.named k low high in (at.0, at.1),
   )
 
 -- pairing names each row once

@@ -69,8 +69,9 @@ Pairs tasks answer r =
     (λ rows. EachLine (IsNewName tasks) (count_of tasks) × EachLine (Answers tasks answer) (count_of answer) × EachLine (IsAnswered tasks answer) (count_of tasks) × RowsNamed tasks answer rows)
     (PairMisses tasks answer)
 
--- the rows that the answer names are all rows of the tasks sheet, each once: they are as many, and no two are the same
+-- the rows that the answer names are all rows of the tasks sheet, each once: they are as many, no two are the same, and each is a row
 abbrev pub EachRowOnce : Sheet → Sheet → List ℕ → Type 0
 EachRowOnce tasks answer rows =
     (count_of answer ≡ count_of tasks)
     × ((k l : ℕ) → 1 ≤ k → k ≤ count_of answer → 1 ≤ l → l ≤ count_of answer → nth rows k 0 ≡ nth rows l 0 → k ≡ l)
+    × EachLine (λ k. (1 ≤ nth rows k 0) × (nth rows k 0 ≤ count_of tasks)) (count_of answer)

@@ -73,7 +73,7 @@ abbrev pub is_last : Fault → ℕ
 is_last (BadLineCount p) = 1
 is_last fault = 0
 
--- One fault comes before another: question 5 is asked last; of the others that of the lower line is asked first, and in a line that of the whole line (field 0) before those of its fields, from left to right.
+-- One fault comes before another: question 5 is asked last; of the others that of the line with the smaller number is asked first, and in a line that of the whole line (field 0) before those of its fields, from left to right.
 abbrev pub Before : Fault → Fault → Type 0
 Before f g =
     (is_last f < is_last g)

@@ -20,7 +20,7 @@ use Rattle.study.specs.Calls.{IsDraft, EditsBy}
 use Rattle.study.specs.Moments.{Moment, moment, rows_of}
 use Rattle.study.specs.Begins.{HasRoom, Begun, Begins}
 use Rattle.study.specs.Steps.{Runs, AsLeft, Leaves, Stepped, Steps, none, keeps, keep_stops, finds, splits, split_stops}
-use Rattle.study.specs.Histories.{Since, begun, one_more, other, Means, Promise, StepPromise, History, Law, Shows, start, edit, begin, no_begin, step, no_step}
+use Rattle.study.specs.Histories.{Since, begun, one_more, other, Means, Promise, StepPromise, History, Law, Shown, start, edit, begin, no_begin, step, no_step}
 use Rattle.study.proofs.Sought.{Holding, AllBarred, Sought, sought_kept, sought_split, slot_full}
 use Rattle.study.proofs.Standing.{finding_shows, every_late}
 use Rattle.study.proofs.Started.{sought_begun}
@@ -50,7 +50,7 @@ finding_of d state.Stopped = d
 module _ {T : Type 0} (answer : T → List Row → ℕ → List Bool → List ℕ → Option ℕ) (t : T) where
   -- what a moment's verdict and ledger say, on these rows, in this state, with n ledger slots counted
   pub record Stands (rows : List Row) (s : State) (n : ℕ) (l : List ℕ) : Type 0 where
-    pub found : (f : Finding) → s ≡ state.Found f → Shows answer t rows f
+    pub found : (f : Finding) → s ≡ state.Found f → Shown answer t rows f
     pub none : s ≡ state.None → (order : List ℕ) → Order (length rows) order → HasLate answer t rows order
     pub barred : AllBarred answer t rows n l
     pub covered : s ≡ state.None → (es : List ℕ) → Estimates rows es → Holding rows l n es
@@ -93,10 +93,10 @@ module _ {T : Type 0} (answer : T → List Row → ℕ → List Bool → List �
     runs = λ r is. absurd (omega (arith, ap kind is));
   }
 
-  ended_found : (rows : List Row) (f : Finding) (n m : ℕ) (l p : List ℕ) → AllBarred answer t rows n l → Shows answer t rows f → Keeps rows (state.Found f) n m l p
+  ended_found : (rows : List Row) (f : Finding) (n m : ℕ) (l p : List ℕ) → AllBarred answer t rows n l → Shown answer t rows f → Keeps rows (state.Found f) n m l p
   ended_found rows f n m l p barred shows = record {
     stands = record {
-      found = λ g is. subst (Shows answer t rows) (ap (finding_of f) is) shows;
+      found = λ g is. subst (Shown answer t rows) (ap (finding_of f) is) shows;
       none = λ is. absurd (omega (arith, ap kind is));
       barred = barred;
       covered = λ is. absurd (omega (arith, ap kind is));

@@ -16,7 +16,7 @@ use Rattle.orders.proofs.Related.{related, own_estimates}
 use Rattle.study.specs.declared.finding.Finding.{Finding}
 use Rattle.study.specs.Slots.{slot}
 use Rattle.study.specs.Turns.{lows_of, Finds}
-use Rattle.study.specs.Histories.{Shows}
+use Rattle.study.specs.Histories.{Shown}
 use Rattle.study.specs.Steps.{ZeroPast, IsSlot}
 use Rattle.study.proofs.Overs.{Full}
 use Rattle.study.proofs.Turned.{lows_within}
@@ -50,7 +50,7 @@ estimates_within rows es few est k names =
 
 module _ {T : Type 0} {answer : T → List Row → ℕ → List Bool → List ℕ → Option ℕ} (laws : Laws answer) (t : T) (rows : List Row) (few : length rows ≤ 32) where
   -- the order that is found for the list of a range's lows lists every row once, holds and passes them; they are estimates of the rows
-  pub finding_shows : (taken : Range) (f : Finding) → Full taken → IsSlot rows taken → Finds answer t rows taken f → Shows answer t rows f
+  pub finding_shows : (taken : Range) (f : Finding) → Full taken → IsSlot rows taken → Finds answer t rows taken f → Shown answer t rows f
   finding_shows taken f full slot finds =
       let order = take (length rows) f.order in
       let lows = take (length rows) taken.lows in

@@ -55,8 +55,8 @@ module _ {T : Type 0} (answer : T → List Row → ℕ → List Bool → List �
     no_step : {m : Moment} {c : Since} → History m c → (l p : List ℕ) (after : Moment) (e : Fault) → Steps answer t (moment m.study l p) (Err e) after → History (moment after.study m.ledger m.pending) (other c)
 
   -- what is shown on found: the order lists every row once, and no task of it is late; each estimate lies from its row's C to its D, and the order passes them
-  abbrev pub Shows : List Row → Finding → Type 0
-  Shows rows f =
+  abbrev pub Shown : List Row → Finding → Type 0
+  Shown rows f =
       let order = take (length rows) f.order in
       let estimates = take (length rows) f.estimates in
       Order (length rows) order × Holds answer t rows order × Estimates rows estimates × Passes answer t rows (as_range estimates) order
@@ -64,7 +64,7 @@ module _ {T : Type 0} (answer : T → List Row → ℕ → List Bool → List �
   -- What a verdict and a ledger mean.
   pub record Means (m : Moment) : Type 0 where
     -- found: the order shown holds, and passes the estimates shown
-    pub found : (f : Finding) → m.study.state ≡ state.Found f → Shows (rows_of m) f
+    pub found : (f : Finding) → m.study.state ≡ state.Found f → Shown (rows_of m) f
     -- none: every order has a late task
     pub none : m.study.state ≡ state.None → (order : List ℕ) → Order (length (rows_of m)) order → HasLate answer t (rows_of m) order
     -- each counted ledger range is closed, and every wider one is open

@@ -2,7 +2,7 @@
 use Rattle.std.specs.Prelude.{◌≡◌, ℕ, ◌+◌, ◌-◌, ◌*◌, ◌≤◌, List, ◌++◌, length, take, drop}
 use Rattle.orders.specs.declared.range.Range.{Range}
 
--- a list has n whole slots and nothing written_over, from 1 to 4,096 of them
+-- a list has n whole slots and nothing over, from 1 to 4,096 of them
 abbrev pub HasSlots : List ℕ → ℕ → Type 0
 HasSlots list n = (1 ≤ n) × (n ≤ 4096) × (length list ≡ 64 * n)
 

@@ -17,7 +17,7 @@ const ROWS: usize = 32;
 // The most slots that a list may have.
 const MOST: usize = 4096;
 
-// How many slots a list has, if it has 1 to 4,096 whole ones and nothing written_over.
+// How many slots a list has, if it has 1 to 4,096 whole ones and nothing over.
 pub(crate) fn slots_in(list: &[u32]) -> Option<usize>
     ensures some { IfSome result (λ slots. HasSlots list.now slots) }
     ensures none { IfNone result ((slots : ℕ) → HasSlots list.now slots → ⊥) }

@@ -86,15 +86,15 @@ ranged high = record { lows = estimates 2 2; highs = padded (3 ∷ (3 ∷ (high 
 abbrev pub Ranged : Type 0
 Ranged = Closed response on_two tasks (ranged 4) × Open response on_two tasks (ranged 5)
 
--- one range is in the ledger, this one
-abbrev pub KeepsOnly : Range → Moment → Type 0
-KeepsOnly r m = (m.study.ledger ≡ 1) × (slot m.ledger 1 ≡ r)
+-- the ledger has one range, this one
+abbrev pub LedgerIs : Range → Moment → Type 0
+LedgerIs r m = (m.study.ledger ≡ 1) × (slot m.ledger 1 ≡ r)
 
--- a search of the tasks under rta: the first step keeps the closed range and leaves three pending, and the second finds the order b, a, c for the estimates a 2, b 2, c 5
+-- a search of the tasks under rta: the first step writes the closed range to the ledger and leaves three pending, and the second finds the order b, a, c for the estimates a 2, b 2, c 5
 abbrev pub FoundAfterSplit : Type 0
 FoundAfterSplit =
     BeginsTo tasks 1 3 (λ begun. StepsTo response on_two begun
-    (λ split. KeepsOnly (ranged 4) split × (split.study.pending ≡ 3) × StepsTo response on_two split
+    (λ split. LedgerIs (ranged 4) split × (split.study.pending ≡ 3) × StepsTo response on_two split
     (λ found. (f : Finding) × (found.study.state ≡ state.Found f) × (take 3 f.order ≡ 2 ∷ (1 ∷ (3 ∷ []))) × (f.estimates ≡ padded (2 ∷ (2 ∷ (5 ∷ [])))))))
 
 -- a row 2/3/3
@@ -113,7 +113,7 @@ both = record { lows = padded (2 ∷ (2 ∷ [])); highs = padded (3 ∷ (3 ∷ [
 abbrev pub NoneAfterKept : Type 0
 NoneAfterKept =
     BeginsTo pair 1 1 (λ begun. StepsTo response on_one begun
-    (λ kept. KeepsOnly both kept × StepsTo response on_one kept (λ ended. ended.study.state ≡ state.None)))
+    (λ kept. LedgerIs both kept × StepsTo response on_one kept (λ ended. ended.study.state ≡ state.None)))
 
 -- one row 5/5/5
 abbrev pub lone : List Row

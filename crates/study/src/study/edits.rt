@@ -46,6 +46,7 @@ impl Study {
         self.redraft();
         Ok(())
     }
+
     // Does an edit.
     pub(super) fn edit(&mut self, edit: Edit) -> Result<(), Fault>
         ensures { EditsBy edit self.old result self.new }
