@@ -67,7 +67,7 @@ module _ {T : Type 0} (answer : T → List Row → ℕ → List Bool → List �
     pub closed : Closed answer t rows r
     pub wider : (w : Range) → Within rows w → Wider rows w r → Open answer t rows w
 
-  -- a range is barred that contains another
+  -- the second range contains the first, and is barred
   abbrev pub Maximal : Range → Range → Type 0
   Maximal r q = Contains rows q r × Barred q
 
