@@ -8,8 +8,7 @@ use Rattle.table.proofs.Placed.{nth_at, nth_next, put_at, nth_replicate}
 use Rattle.bounds.specs.Orders.{task_at}
 use Rattle.bounds.specs.Responses.{least_from}
 use Rattle.orders.specs.declared.range.Range.{Range}
-use Rattle.orders.specs.Ranges.{Within}
-use Rattle.orders.specs.Assigner.{at_most, full, candidate, fill, assigned, Assigns}
+use Rattle.orders.specs.Assigner.{at_most, full, candidate, fill, assigned}
 
 -- the tasks placed so far, once one more is placed above them
 placed_more : (tasks : List ℕ) (n level k : ℕ) → 0 < level → level ≤ n → n ≤ length tasks → k ∷ drop level (take n tasks) ≡ drop (level - 1) (take n (set tasks (level - 1) k))
@@ -69,8 +68,6 @@ module _ {T : Type 0} (answer : T → List Row → ℕ → List Bool → List �
       pub filling_fails : None ≡ least_from (candidate answer t rows r left) 1 (length rows) → assigned answer t rows r ≡ None
       filling_fails is = sym filling.rest ∙ fill_level level left placed None pos is
 
-  pub filling_all : (level : ℕ) (left : List Bool) (order : List ℕ) → Filling level left order → Within rows r → level ≡ 0 → Assigns answer t rows r (Some order)
-  filling_all level left order filling within e = (
-    (λ out. absurd (out within)),
-    λ _. (sym filling.rest ∙ fill_none level left (drop level (take (length rows) order)) e ∙ ap (λ l. Some (drop l (take (length rows) order))) e, filling.past),
-  )
+  pub filling_all : (level : ℕ) (left : List Bool) (order : List ℕ) → Filling level left order → level ≡ 0 → (assigned answer t rows r ≡ Some (take (length rows) order)) × ((p : ℕ) → length rows ≤ p → task_at order p ≡ 0)
+  filling_all level left order filling e =
+      (sym filling.rest ∙ fill_none level left (drop level (take (length rows) order)) e ∙ ap (λ l. Some (drop l (take (length rows) order))) e, filling.past)

@@ -1,4 +1,3 @@
-pub mod Chains
 pub mod Puts
 pub mod Withins
 pub mod Sets

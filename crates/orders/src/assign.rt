@@ -1,9 +1,9 @@
 // The assigner: Audsley's method for a range.
-ghost use Rattle.std.specs.Prelude.{◌≡◌, ◌+◌, ◌<◌, ◌≤◌, ◌↔◌, length, false, IsTrue};
+ghost use Rattle.std.specs.Prelude.{◌≡◌, ℕ, ◌<◌, ◌≤◌, ◌↔◌, length, take, false, IsTrue, None, Some, MatchOption};
 ghost use Rattle.table.specs.Places.{put};
 ghost use Rattle.table.specs.Rows.{view};
-ghost use Rattle.bounds.specs.Responses.{least_from};
-ghost use Rattle.orders.specs.Assigner.{candidate, full, Assigns, FindsIfOpen, FillsLowest};
+ghost use Rattle.bounds.specs.Orders.{task_at};
+ghost use Rattle.orders.specs.Assigner.{assigned, candidate, full, Assigns, FindsIfOpen, FillsLowest};
 ghost use Rattle.orders.specs.Ranges.{Within};
 ghost use Rattle.orders.specs.Relations.{Relations};
 
@@ -71,13 +71,38 @@ impl<T: Test> Assigner<'_, T> {
             .is_some_and(|bound| bound <= self.range.highs[k - 1])
     }
 
-    // The lowest-numbered unplaced task that passes below all the others.
-    fn lowest_passing(&self, left: &[bool; 32]) -> Option<usize>
+    // The order of the filled levels, the highest task first, with 0 after the last: from the lowest level up each takes
+    // the lowest-numbered task left that passes there. None where no task passes at a level; `left` then has the tasks
+    // that are not placed.
+    fn fill_levels(&self, left: &mut [bool; 32]) -> Option<[usize; 32]>
+        requires { left.old ≡ full (length (view self.now.table.now)) }
         ensures { let rows = view self.now.table.now in
-            let passes = candidate T.answer self.now.test.now rows self.now.range.now left.now in
-            result ≡ least_from passes 1 (length rows) }
+            MatchOption result (assigned T.answer self.now.test.now rows self.now.range.now ≡ None)
+            (λ tasks. (assigned T.answer self.now.test.now rows self.now.range.now ≡ Some (take (length rows) tasks))
+            × ((p : ℕ) → length rows ≤ p → task_at tasks p ≡ 0)) }
     {
-        (1..=self.table.len()).find(|&k| self.passes(left, k))
+        let rows = self.table.len();
+        // An array with 0 past the last task, since no library crate has a heap.
+        let mut order = [0; 32];
+        let mut level = rows;
+        'levels: loop {
+            if level == 0 {
+                break Some(order);
+            }
+            let mut candidate = 1;
+            let task = loop {
+                if candidate > rows {
+                    break 'levels None;
+                }
+                if self.passes(left, candidate) {
+                    break candidate;
+                }
+                candidate += 1;
+            };
+            level -= 1;
+            left[task - 1] = false;
+            order[level] = task;
+        }
     }
 }
 
@@ -100,12 +125,8 @@ pub(crate) fn high_wanted<T: Test>(
         range: &others,
     };
     let mut left = all_tasks(table.len());
-    for _level in 0..table.len() {
-        let Some(task) = assigner.lowest_passing(&left) else {
-            break;
-        };
-        left[task - 1] = false;
-    }
+    // They end with none.
+    assigner.fill_levels(&mut left);
     assigner.answer(&left, place + 1)
 }
 
@@ -122,15 +143,5 @@ pub fn assign<T: Test>(test: &T, table: &Table<Row>, range: &Range) -> Option<[u
         return None;
     }
     let assigner = Assigner { test, table, range };
-    let rows = table.len();
-    let mut left = all_tasks(rows);
-    // An array with 0 past the last task, since no library crate has a heap.
-    let mut order = [0; 32];
-    // By level: what is written through `iter_mut` would not be known once its loan ends.
-    for level in (0..rows).rev() {
-        let task = assigner.lowest_passing(&left)?;
-        left[task - 1] = false;
-        order[level] = task;
-    }
-    Some(order)
+    assigner.fill_levels(&mut all_tasks(table.len()))
 }

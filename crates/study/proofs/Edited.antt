@@ -1,5 +1,5 @@
 -- An edit that its table's call accepts.
-use Rattle.std.proofs.Common.{◌≡◌, ℕ, ◌≤◌, ◌<◌, length, Ok, Err, Result, is_ok, ap, subst, sym, inl, inr, arith}
+use Rattle.std.proofs.Common.{◌≡◌, ℕ, length, Ok, Err, Result, is_ok, ap, subst, sym, inl, inr, arith}
 use Rattle.std.proofs.Props.{props}
 use Rattle.std.proofs.lemmas.Bool.{cases_lt, false≢true}
 use Rattle.table.specs.declared.row.Row.{Row}

@@ -13,7 +13,7 @@ use Rattle.study.specs.Begins.{HasRoom, Begins}
 use Rattle.study.specs.Steps.{Runs, Stepped, Steps, none, keeps, keep_stops, finds, splits, split_stops}
 use Rattle.study.specs.Histories.{Since, other, Promise, History, begin, no_begin, step}
 use Rattle.study.specs.Searches.{Leads, begins, steps, Searches, SearchPromise}
-use Rattle.study.proofs.Lawful.{room_of, KeepsAt, Told, begun_keeps, told_begun, stepped_keeps, told_stepped, begin_accepted, begin_refused, step_accepted, counted_running, ok≢err, ready, law}
+use Rattle.study.proofs.Lawful.{room_of, KeepsAt, Told, begun_keeps, told_begun, stepped_keeps, told_stepped, begin_accepted, step_accepted, counted_running, ok≢err, ready, law}
 
 abbrev since_at : Room → ℕ → Bool → Since
 since_at room n stepped = record { slots = room.ledger; steps = n; stepped = stepped }
@@ -28,7 +28,7 @@ module _ {T : Type 0} (answer : T → List Row → ℕ → List Bool → List �
     pub told : Told m (since_at room count stepped)
     pub same : count ≡ m.study.steps
     pub alive : (Runs room m) ⊎ ((verdicts m.study.state ≡ 1) × (stepped ≡ true))
-    pub past : (c : Since) → History answer t before c → History answer t m (since_at room count stepped)
+    pub past : (l p : List ℕ) (c : Since) → History answer t (moment before.study l p) c → History answer t m (since_at room count stepped)
 
   pub going_begun : (room : Room) (before after : Moment) → HasRoom room before → Begins before (Ok tt) after → (r : Room) × HasRoom r before × Going r before after
   going_begun room before after has begun =
@@ -43,7 +43,7 @@ module _ {T : Type 0} (answer : T → List Row → ℕ → List Bool → List �
           told = told_begun on.0 after on.0.ledger refl on.2.state on.2.steps;
           same = sym on.2.steps;
           alive = inl on.2.state;
-          past = λ c h. begin h before.ledger before.pending after on.0 on.1 begun;
+          past = λ l p c h. begin h before.ledger before.pending after on.0 on.1 begun;
         },
       )
 
@@ -88,7 +88,7 @@ module _ {T : Type 0} (answer : T → List Row → ℕ → List Bool → List �
           told = told_stepped room m after (since_at room going.count going.stepped) going.told runs answer t did;
           same = omega (arith, going.same, next.0);
           alive = elim next.1 [ inl on_it ↦ inl on_it | inr verdict ↦ inr (verdict, refl) ];
-          past = λ c h. step (going.past c h) after took;
+          past = λ l p c h. step (going.past l p c h) after took;
         }
 
   module _ (room : Room) (before m : Moment) (going : Going room before m) (over : ((r : Room) × Runs r m) → ⊥) where
@@ -102,10 +102,10 @@ module _ {T : Type 0} (answer : T → List Row → ℕ → List Bool → List �
       λ _. (λ bad. absurd (bad (room, has)), λ _. (room, has, refl, record { count = going.count; leads = going.leads; bounded = going.told.bounded; ends = ended.0 })),
     )
 
-    pub promise_ended : (laws : Laws answer) → HasRoom room before → (c : Since) → History answer t before c → SearchPromise answer t before m c (Ok tt)
-    promise_ended laws has c h =
+    pub promise_ended : (laws : Laws answer) → HasRoom room before → (l p : List ℕ) (c : Since) → History answer t (moment before.study l p) c → SearchPromise answer t before m l p c (Ok tt)
+    promise_ended laws has l p c h =
         let slots : room.ledger ≡ length before.ledger / 64 = omega (arith, has.0.2) in
-        let promise = law answer t laws m (since_at room going.count going.stepped) (going.past c h) in (
+        let promise = law answer t laws m (since_at room going.count going.stepped) (going.past l p c h) in (
           subst (λ n. Promise answer t m (record { slots = n; steps = m.study.steps; stepped = true })) slots
               (subst (λ n. Promise answer t m (record { slots = room.ledger; steps = n; stepped = true })) going.same
               (subst (λ b. Promise answer t m (record { slots = room.ledger; steps = going.count; stepped = b })) ended.1 promise)),
@@ -119,11 +119,10 @@ module _ {T : Type 0} (answer : T → List Row → ℕ → List Bool → List �
     λ some. ((refused.1 some).0, λ q. absurd (ok≢err e (sym ((refused.1 some).1 q).2))),
   )
 
-  pub promise_refused : (laws : Laws answer) (before after : Moment) (e : Fault) → Begins before (Err e) after → (c : Since) → History answer t before c → (r : Result (Unit {0}) Fault) → IsErr r → SearchPromise answer t before after c r
-  promise_refused laws before after e refused c h (Ok x) err = absurd (false≢true err)
-  promise_refused laws before after e refused c h (Err x) err =
-      let same = begin_refused before after e refused in
-      (tt, subst (λ x. Promise answer t x (other c)) (sym same) (law answer t laws before (other c) (subst (λ x. History answer t (moment x.study before.ledger before.pending) (other c)) same (no_begin h before.ledger before.pending after e refused))))
+  pub promise_refused : (laws : Laws answer) (before after : Moment) (e : Fault) → Begins before (Err e) after → (l p : List ℕ) (c : Since) → History answer t (moment before.study l p) c → (r : Result (Unit {0}) Fault) → IsErr r → SearchPromise answer t before after l p c r
+  promise_refused laws before after e refused l p c h (Ok x) err = absurd (false≢true err)
+  promise_refused laws before after e refused l p c h (Err x) err =
+      (tt, law answer t laws (moment after.study l p) (other c) (no_begin h before.ledger before.pending after e refused))
 
 -- whether a list has whole slots
 has_slots : (list : List ℕ) → ((n : ℕ) × HasSlots list n) ⊎ (((n : ℕ) × HasSlots list n) → ⊥)

@@ -1,5 +1,5 @@
 -- The law over all histories, by one induction.
-use Rattle.std.proofs.Common.{◌≡◌, ℕ, ◌+◌, ◌≤◌, Bool, true, false, ◌⊎◌, List, length, take, Ok, Err, Result, IfOk, IfErr, is_ok, Option, sym, refl, ap, subst, ◌∙◌, inl, inr, arith}
+use Rattle.std.proofs.Common.{◌≡◌, ℕ, ◌+◌, ◌≤◌, Bool, true, false, ◌⊎◌, List, length, Ok, Err, Result, IfOk, IfErr, is_ok, Option, sym, refl, ap, subst, ◌∙◌, inl, inr, arith}
 use Rattle.std.proofs.lemmas.Bool.{false≢true, cases_lt}
 use Rattle.table.specs.declared.row.Row.{Row}
 use Rattle.table.specs.declared.fault.Fault.{Fault}
@@ -7,7 +7,7 @@ use Rattle.table.specs.declared.fault.Fault.TheVariants.{Empty, NotRunning}
 use Rattle.table.specs.Rows.{view}
 use Rattle.table.proofs.View.{few_rows}
 use Rattle.bounds.specs.Questions.{Laws}
-use Rattle.bounds.specs.Orders.{Order, Estimates, Holds, HasLate}
+use Rattle.bounds.specs.Orders.{Order, Estimates, HasLate}
 use Rattle.study.specs.declared.study.Study.{Study}
 use Rattle.study.specs.declared.edit.Edit.{Edit}
 use Rattle.study.specs.declared.edit.Edit.TheVariants.{Add, Alter, Remove}
@@ -20,7 +20,7 @@ use Rattle.study.specs.Calls.{IsDraft, EditsBy}
 use Rattle.study.specs.Moments.{Moment, moment, rows_of}
 use Rattle.study.specs.Begins.{HasRoom, Begun, Begins}
 use Rattle.study.specs.Steps.{Runs, AsLeft, Leaves, Stepped, Steps, none, keeps, keep_stops, finds, splits, split_stops}
-use Rattle.study.specs.Histories.{Since, begun, one_more, other, Means, Promise, StepPromise, History, Law, Shown, start, edit, begin, no_begin, step, no_step}
+use Rattle.study.specs.Histories.{Since, begun, one_more, other, Means, StepPromise, History, Law, Shown, start, edit, begin, no_begin, step, no_step}
 use Rattle.study.proofs.Sought.{Holding, AllBarred, Sought, sought_kept, sought_split, slot_full}
 use Rattle.study.proofs.Standing.{finding_shows, every_late}
 use Rattle.study.proofs.Started.{sought_begun}
@@ -308,8 +308,11 @@ module _ {T : Type 0} (answer : T → List Row → ℕ → List Bool → List �
         }
 
     -- the promise after a step from the end of a history
-    pub step_promise : (m after : Moment) (c : Since) (r : Result (Unit {0}) Fault) → Steps answer t m r after → History answer t m c → StepPromise answer t after c r
-    step_promise m after c (Ok x) steps h = (law after (one_more c) (step h after steps), tt)
-    step_promise m after c (Err e) steps h =
-        let same = step_refused m after e steps in
-        (tt, subst (λ x. Promise answer t x (other c)) (sym same) (law m (other c) (subst (λ x. History answer t (moment x.study m.ledger m.pending) (other c)) same (no_step h m.ledger m.pending after e steps))))
+    pub step_promise : (lent after : Moment) (l p : List ℕ) (c : Since) (r : Result (Unit {0}) Fault) → Steps answer t lent r after → History answer t (moment lent.study l p) c → StepPromise answer t lent after l p c r
+    step_promise lent after l p c (Ok x) steps h = (
+      λ same_ledger same_pending. law after (one_more c)
+          (step (subst (λ x. History answer t (moment lent.study x lent.pending) c) same_ledger (subst (λ x. History answer t (moment lent.study l x) c) same_pending h)) after steps),
+      tt,
+    )
+    step_promise lent after l p c (Err e) steps h =
+        (tt, law (moment after.study l p) (other c) (no_step h lent.ledger lent.pending after e steps))

@@ -11,3 +11,4 @@ pub mod Standing
 pub mod Started
 pub mod Lawful
 pub mod Going
+pub mod Called

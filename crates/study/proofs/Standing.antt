@@ -6,7 +6,7 @@ use Rattle.table.specs.declared.row.Row.{Row}
 use Rattle.table.specs.Places.{nth}
 use Rattle.table.proofs.Placed.{nth_at, nth_next}
 use Rattle.bounds.specs.Questions.{Laws}
-use Rattle.bounds.specs.Orders.{Order, Estimates, Holds, HasLate, padded}
+use Rattle.bounds.specs.Orders.{Order, Estimates, HasLate, padded}
 use Rattle.bounds.proofs.Padded.{padded_length, padded_read, padded_at}
 use Rattle.orders.specs.declared.range.Range.{Range}
 use Rattle.orders.specs.Ranges.{as_range, Within, Passes}

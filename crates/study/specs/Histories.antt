@@ -1,5 +1,5 @@
 -- Histories of calls, and the law that holds after each call.
-use Rattle.std.specs.Prelude.{◌≡◌, ℕ, ◌+◌, ◌≤◌, Bool, true, false, List, length, take, Ok, Err, Result, IfOk, IfErr, Option}
+use Rattle.std.specs.Prelude.{◌≡◌, ℕ, ◌+◌, ◌/◌, ◌≤◌, Bool, true, false, List, length, take, Ok, Err, Result, IfOk, IfErr, Option}
 use Rattle.table.specs.declared.row.Row.{Row}
 use Rattle.table.specs.declared.fault.Fault.{Fault}
 use Rattle.bounds.specs.Orders.{Order, Estimates, Holds, HasLate}
@@ -88,6 +88,18 @@ module _ {T : Type 0} (answer : T → List Row → ℕ → List Bool → List �
   abbrev pub Law : Type 0
   Law = (m : Moment) (c : Since) → History m c → Promise m c
 
-  -- the promise after a step that was accepted or refused
-  abbrev pub StepPromise : Moment → Since → Result (Unit {0}) Fault → Type 0
-  StepPromise after c r = IfOk r (λ _. Promise after (one_more c)) × IfErr r (λ _. Promise after (other c))
+  -- after an edit or a refused call: the lists at hand stay, and nothing that was begun is counted anew
+  abbrev pub StaysPromised : Study → List ℕ → List ℕ → Since → Type 0
+  StaysPromised after l p c = Promise (moment after l p) (other c)
+
+  -- The promise after a step, where a history has led to this study with the lists l and p at hand. A step that is accepted is lent just these, a refused one may be lent any.
+  abbrev pub StepPromise : Moment → Moment → List ℕ → List ℕ → Since → Result (Unit {0}) Fault → Type 0
+  StepPromise lent after l p c r =
+      IfOk r (λ _. l ≡ lent.ledger → p ≡ lent.pending → Promise after (one_more c))
+      × IfErr r (λ _. StaysPromised after.study l p c)
+
+  -- The promise after a begin, where a history has led to this study with the lists l and p at hand. It may be lent two others, which take their place if it is accepted.
+  abbrev pub BeginPromise : Moment → Moment → List ℕ → List ℕ → Since → Result (Unit {0}) Fault → Type 0
+  BeginPromise lent after l p c r =
+      IfOk r (λ _. Promise after (begun (length lent.ledger / 64)))
+      × IfErr r (λ _. StaysPromised after.study l p c)

@@ -6,6 +6,6 @@ pub mod Begins
 pub mod Pieces
 pub mod Turns
 pub mod Steps
-pub mod Machine
 pub mod Histories
+pub mod Machine
 pub mod Searches

@@ -9,7 +9,7 @@ use Rattle.study.specs.Counts.{verdicts}
 use Rattle.study.specs.Moments.{Moment, rows_of}
 use Rattle.study.specs.Begins.{HasRoom, Begins}
 use Rattle.study.specs.Steps.{Steps}
-use Rattle.study.specs.Histories.{Since, other, Promise}
+use Rattle.study.specs.Histories.{Since, Promise, StaysPromised}
 
 module _ {T : Type 0} (answer : T → List Row → ℕ → List Bool → List ℕ → Option ℕ) (t : T) where
   -- an accepted begin on lists with this room, and then n accepted steps, each while there is no verdict, lead from one moment to another
@@ -31,7 +31,8 @@ module _ {T : Type 0} (answer : T → List Row → ℕ → List Bool → List �
       (Asks ((room : Room) × HasRoom room before) (Refuses BadSlots before r after)
       ((room : Room) × HasRoom room before × (r ≡ Ok tt) × Searched room before after))
 
-  -- the promise after a search that was accepted or refused
-  abbrev pub SearchPromise : Moment → Moment → Since → Result (Unit {0}) Fault → Type 0
-  SearchPromise before after c r =
-      IfOk r (λ _. Promise answer t after (record { slots = length before.ledger / 64; steps = after.study.steps; stepped = true })) × IfErr r (λ _. Promise answer t after (other c))
+  -- The promise after a search, where a history has led to this study with the lists l and p at hand. It may be lent two others, as its begin may.
+  abbrev pub SearchPromise : Moment → Moment → List ℕ → List ℕ → Since → Result (Unit {0}) Fault → Type 0
+  SearchPromise lent after l p c r =
+      IfOk r (λ _. Promise answer t after (record { slots = length lent.ledger / 64; steps = after.study.steps; stepped = true }))
+      × IfErr r (λ _. StaysPromised answer t after.study l p c)

@@ -1,5 +1,5 @@
 // A whole search.
-ghost use Rattle.std.specs.Prelude.{◌≡◌, ◌↔◌, IfOk, IsTrue};
+ghost use Rattle.std.specs.Prelude.{◌≡◌, ℕ, ◌↔◌, List, IfOk, IsTrue};
 ghost use Rattle.study.specs.declared.room.Room.{Room as OneRoom};
 ghost use Rattle.study.specs.declared.state.State.TheVariants as state;
 ghost use Rattle.study.specs.Histories.{Since, History, Law, Means};
@@ -29,8 +29,10 @@ impl Study {
         ensures leads { Searches T.answer test.now (moment self.old ledger.old pending.old) result (moment self.new ledger.new pending.new) }
         ensures means { IfOk result (λ _. Means T.answer test.now (moment self.new ledger.new pending.new)) }
         ensures law { Law T.answer test.now }
-        ensures promise { let before = moment self.old ledger.old pending.old in
-            (c : Since) → History T.answer test.now before c → SearchPromise T.answer test.now before (moment self.new ledger.new pending.new) c result }
+        ensures promise { (l p : List ℕ) (c : Since) → History T.answer test.now (moment self.old l p) c →
+            let lent = moment self.old ledger.old pending.old in
+            let after = moment self.new ledger.new pending.new in
+            SearchPromise T.answer test.now lent after l p c result }
     {
         self.begin(ledger, pending)?;
         while self.is_running() {

@@ -1,6 +1,7 @@
 // The machine: a study's state and a call, together.
+ghost use Rattle.std.specs.Prelude.{ℕ, List};
 ghost use Rattle.study.specs.Histories.{Since, History, Law, StepPromise};
-ghost use Rattle.study.specs.Machine.{Calls};
+ghost use Rattle.study.specs.Machine.{Calls, CallPromise};
 ghost use Rattle.study.specs.Moments.{moment};
 ghost use Rattle.study.specs.Steps.{Steps};
 
@@ -19,7 +20,11 @@ impl Study {
         ledger: &mut [u32],
         pending: &mut [u32],
     ) -> Result<(), Fault>
-        ensures { Calls T.answer test.now call (moment self.old ledger.old pending.old) result (moment self.new ledger.new pending.new) }
+        ensures does { Calls T.answer test.now call (moment self.old ledger.old pending.old) result (moment self.new ledger.new pending.new) }
+        ensures promise { (l p : List ℕ) (c : Since) → History T.answer test.now (moment self.old l p) c →
+            let lent = moment self.old ledger.old pending.old in
+            let after = moment self.new ledger.new pending.new in
+            CallPromise T.answer test.now call lent after l p c result }
     {
         match (call, self.state) {
             (
@@ -46,8 +51,10 @@ impl Study {
     ) -> Result<(), Fault>
         ensures does { Steps T.answer test.now (moment self.old ledger.old pending.old) result (moment self.new ledger.new pending.new) }
         ensures law { Law T.answer test.now }
-        ensures promise { (c : Since) → History T.answer test.now (moment self.old ledger.old pending.old) c →
-            StepPromise T.answer test.now (moment self.new ledger.new pending.new) c result }
+        ensures promise { (l p : List ℕ) (c : Since) → History T.answer test.now (moment self.old l p) c →
+            let lent = moment self.old ledger.old pending.old in
+            let after = moment self.new ledger.new pending.new in
+            StepPromise T.answer test.now lent after l p c result }
     {
         self.call(Call::Step, test, ledger, pending)
     }

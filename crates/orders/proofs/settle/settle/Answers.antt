@@ -1,4 +1,4 @@
-use Rattle.std.proofs.Common.{◌≡◌, length, Some, None}
+use Rattle.std.proofs.Common.{length, Some, None}
 use Rattle.table.specs.Rows.{view}
 use Rattle.table.proofs.View.{few_rows}
 use Rattle.orders.specs.Growth.{GrownTo}

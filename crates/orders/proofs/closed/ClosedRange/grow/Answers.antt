@@ -1,7 +1,7 @@
-use Rattle.std.proofs.Common.{◌≡◌, ◌+◌, length, refl, sym, ◌∙◌, subst, arith}
+use Rattle.std.proofs.Common.{◌+◌, refl, ◌∙◌}
 use Rattle.table.specs.Rows.{view}
 use Rattle.table.proofs.View.{few_rows}
-use Rattle.orders.specs.Growth.{LowGrown, HighGrown, GrownTo, start}
+use Rattle.orders.specs.Growth.{LowGrown, HighGrown, start}
 use Rattle.orders.proofs.Grows.{grown_next}
 use Rattle.orders.proofs.closed.ClosedRange.grow.Goals as goal
 

@@ -9,10 +9,10 @@ pub returns-in_err-begin-clause-law : goal.returns-in_err-begin-clause-law
 returns-in_err-begin-clause-law g c = law g.T.Test.answer c.args.test.now g.met.T.Test.kept
 
 pub returns-in_err-begin-clause-promise : goal.returns-in_err-begin-clause-promise
-returns-in_err-begin-clause-promise g c tally history =
+returns-in_err-begin-clause-promise g c l p tally history =
     let before = moment c.args.self.now c.args.ledger.now c.args.pending.now in
     let after = moment c.begin.new.self c.begin.new.ledger c.begin.new.pending in
-    promise_refused g.T.Test.answer c.args.test.now g.met.T.Test.kept before after _ c.in_err-begin.ensures tally history _ c.from_residual.ensures.0
+    promise_refused g.T.Test.answer c.args.test.now g.met.T.Test.kept before after _ c.in_err-begin.ensures l p tally history _ c.from_residual.ensures.0
 
 pub loop-self-init : goal.loop-self-init
 loop-self-init g c =
@@ -50,5 +50,5 @@ returns g c =
       leads = searches_ended g.T.Test.answer c.args.test.now on.1.0 before after on.1.2 (λ q. false≢true (sym c.loop-self-test.false ∙ c.is_running.ensures.1 q)) on.0 on.1.1;
       means = means g.T.Test.answer c.args.test.now after on.1.2.at;
       law = law g.T.Test.answer c.args.test.now g.met.T.Test.kept;
-      promise = λ tally history. promise_ended g.T.Test.answer c.args.test.now on.1.0 before after on.1.2 (λ q. false≢true (sym c.loop-self-test.false ∙ c.is_running.ensures.1 q)) g.met.T.Test.kept on.1.1 tally history;
+      promise = λ l p tally history. promise_ended g.T.Test.answer c.args.test.now on.1.0 before after on.1.2 (λ q. false≢true (sym c.loop-self-test.false ∙ c.is_running.ensures.1 q)) g.met.T.Test.kept on.1.1 l p tally history;
     }

@@ -6,5 +6,5 @@ pub returns-clause-law : goal.returns-clause-law
 returns-clause-law g c = law g.T.Test.answer c.args.test.now g.met.T.Test.kept
 
 pub returns-clause-promise : goal.returns-clause-promise
-returns-clause-promise g c tally history =
-    step_promise g.T.Test.answer c.args.test.now g.met.T.Test.kept (moment c.args.self.now c.args.ledger.now c.args.pending.now) (moment c.call.new.self c.call.new.ledger c.call.new.pending) tally c.call.result c.call.ensures history
+returns-clause-promise g c l p tally history =
+    step_promise g.T.Test.answer c.args.test.now g.met.T.Test.kept (moment c.args.self.now c.args.ledger.now c.args.pending.now) (moment c.call.new.self c.call.new.ledger c.call.new.pending) l p tally c.call.result c.call.ensures.does history
