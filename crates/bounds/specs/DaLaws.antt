@@ -6,7 +6,7 @@ use Rattle.table.specs.declared.row.Row.{Row}
 use Rattle.table.specs.Rows.{row}
 use Rattle.bounds.specs.declared.da.Da.{Da}
 use Rattle.bounds.specs.Questions.{Sound, Laws, timely, soundb}
-use Rattle.bounds.specs.Loads.{da, deadline_load}
+use Rattle.bounds.specs.Loads.{da, deadline_load, DaMeaning}
 use Rattle.bounds.specs.Compared.{given_when, no_more_same, timely_mono, timely_some}
 use Rattle.bounds.specs.Sounds.{sound_from, sound_test}
 use Rattle.bounds.specs.Works.{div_mono, deadline_load_mono}
@@ -41,3 +41,6 @@ da_laws = record {
       (timely_mono (row rows i).deadline _ _ (omega (arith, div_mono _ _ m (omega (arith, t.processors.ok)) (deadline_load_mono rows i s u sub))));
   greater = λ t rows i s e f h k le. no_more_same _ _ (da_sound t.processors.count rows i s e h ∙ sym (da_sound t.processors.count rows i s f k));
 }
+
+pub da_means : DaMeaning
+da_means = da_sound

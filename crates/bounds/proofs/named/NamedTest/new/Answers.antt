@@ -9,7 +9,7 @@ use Rattle.bounds.proofs.named.NamedTest.new.Goals as goal
 pub returns-in_ok-new-in-da : goal.returns-in_ok-new-in-da
 returns-in_ok-new-in-da c =
     let name : c.args.name.now ≡ codes "da" = text_from_reads _ _ (search rules) (search rules) in
-    made_named (λ (t : Da). t.processors) c.args.name.now c.args.m c.in_ok-new-in-da.field-0 _ (inl name) c.in_ok-new-in-da.ensures (λ e. (name, e))
+    made_named (λ (t : Da). t.processors) c.args.name.now c.args.m c.in_ok-new-in-da.field-0 _ (inl name) c.in_ok-new-in-da.ensures.made (λ e. (name, e))
 
 pub returns-in_ok-new-in-lc : goal.returns-in_ok-new-in-lc
 returns-in_ok-new-in-lc c =
