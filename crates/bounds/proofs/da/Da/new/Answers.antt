@@ -1,6 +1,6 @@
 use Rattle.std.proofs.Common.{refl}
 use Rattle.bounds.specs.declared.da.Da.{Da}
-use Rattle.bounds.specs.DaLaws.{da_means}
+use Rattle.bounds.proofs.Meanings.{da_means}
 use Rattle.bounds.proofs.Making.{made_on}
 use Rattle.bounds.proofs.Posing.{unsound_late}
 use Rattle.bounds.proofs.da.Da.new.Goals as goal

@@ -1,6 +1,6 @@
 use Rattle.std.proofs.Common.{refl}
 use Rattle.bounds.specs.declared.lc.Lc.{Lc}
-use Rattle.bounds.specs.ResponseLoads.{lc_means}
+use Rattle.bounds.proofs.Meanings.{lc_means}
 use Rattle.bounds.proofs.Making.{made_on}
 use Rattle.bounds.proofs.Posing.{unsound_late}
 use Rattle.bounds.proofs.lc.Lc.new.Goals as goal

@@ -3,7 +3,7 @@ use Rattle.std.proofs.lemmas.Slice.Eq.{text_from_reads}
 use Rattle.bounds.specs.declared.da.Da.{Da}
 use Rattle.bounds.specs.declared.rta.Rta.{Rta}
 use Rattle.bounds.specs.declared.lc.Lc.{Lc}
-use Rattle.bounds.specs.NamedLaws.{made_named}
+use Rattle.bounds.proofs.Making.{made_named}
 use Rattle.bounds.proofs.named.NamedTest.new.Goals as goal
 
 pub returns-in_ok-new-in-da : goal.returns-in_ok-new-in-da

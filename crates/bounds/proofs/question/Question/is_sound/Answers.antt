@@ -7,8 +7,7 @@ use Rattle.std.proofs.lemmas.Iterator.Search.{all_from_yields_List}
 use Rattle.table.specs.Rows.{view}
 use Rattle.table.proofs.Placed.{nth_at}
 use Rattle.bounds.specs.Questions.{sound_atb}
-use Rattle.bounds.specs.Sounds.{sound_decides}
-use Rattle.bounds.proofs.Sounding.{all_places, sound_by_places}
+use Rattle.bounds.proofs.Sounding.{all_places, sound_by_places, sound_decides}
 use Rattle.bounds.proofs.question.Question.is_sound.Goals as goal
 use Rattle.bounds.proofs.question.Question.is_sound.Goals.{then-task-eq0-via-then-task-eq0, then-task-eq0-via-else-task-eq0+then-task-len, then-task-eq0-via-else-task-eq0+else-task-len+then-self-task}
 

@@ -1,6 +1,6 @@
 use Rattle.std.proofs.Common.{refl}
 use Rattle.bounds.specs.declared.rta.Rta.{Rta}
-use Rattle.bounds.specs.ResponseLoads.{rta_means}
+use Rattle.bounds.proofs.Meanings.{rta_means}
 use Rattle.bounds.proofs.Making.{made_on}
 use Rattle.bounds.proofs.Posing.{unsound_late}
 use Rattle.bounds.proofs.rta.Rta.new.Goals as goal
