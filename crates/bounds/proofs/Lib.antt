@@ -16,3 +16,10 @@ pub mod Tallies
 pub mod UncappedLoads
 pub mod Wcets
 pub mod Holding
+pub mod Comparing
+pub mod DeadlineLoads
+pub mod Firsts
+pub mod Greatests
+pub mod Meanings
+pub mod ReadRows
+pub mod Summing

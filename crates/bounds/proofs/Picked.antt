@@ -6,9 +6,9 @@ use Rattle.table.specs.Places.{nth}
 use Rattle.table.proofs.Placed.{nth_at, nth_next, nth_replicate}
 use Rattle.bounds.specs.Loads.{sum_to, sum_over}
 use Rattle.bounds.specs.Climbs.{Picked, GreatestLeft}
-use Rattle.bounds.specs.Greatests.{edge_best}
 use Rattle.bounds.specs.Sounds.{in_low}
-use Rattle.bounds.specs.Sums.{sum_same, sum_part}
+use Rattle.bounds.proofs.Summing.{sum_same, sum_part}
+use Rattle.bounds.proofs.Greatests.{edge_best}
 use Rattle.bounds.proofs.Listed.{none_seen}
 
 pub count_none : (n : ℕ) → sum_over (replicate 32 false) (λ _. 1) n ≡ 0

@@ -8,8 +8,9 @@ use Rattle.bounds.specs.declared.tally.Tally.{Tally}
 use Rattle.bounds.specs.Loads.{cap_of}
 use Rattle.bounds.specs.Responses.{least_fit}
 use Rattle.bounds.specs.Climbs.{capped_total, Uncapped, Tallied, NoneDo}
-use Rattle.bounds.specs.Leasts.{least_found, least_missing}
-use Rattle.bounds.specs.Sums.{sum_mono, sum_add, total_constant}
+use Rattle.bounds.specs.Sums.{sum_mono}
+use Rattle.bounds.proofs.Summing.{sum_add, total_constant}
+use Rattle.bounds.proofs.Firsts.{least_found, least_missing}
 
 -- y' ≤ x / d says d · y' ≤ x
 below_div : (x d y : ℕ) → y ≤ x / d → d * y ≤ x

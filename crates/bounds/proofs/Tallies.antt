@@ -5,7 +5,7 @@ use Rattle.table.specs.Places.{nth}
 use Rattle.table.proofs.Placed.{nth_next}
 use Rattle.bounds.specs.declared.tally.Tally.{Tally}
 use Rattle.bounds.specs.Climbs.{Tallied}
-use Rattle.bounds.specs.Sums.{sum_none, sum_more, sum_le}
+use Rattle.bounds.proofs.Summing.{sum_none, sum_more, sum_le}
 
 pub tallied_none : (loads : List ℕ) (y : ℕ) → Tallied loads 0 y (record { sum = 0; over = 0; least = 2000000; rest = 0 })
 tallied_none loads y = record { sum = sym (sum_none _); over = sym (sum_none _); least = λ k low high. absurd (omega arith); rest = sym (sum_none _) }

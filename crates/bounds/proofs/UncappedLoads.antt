@@ -12,9 +12,10 @@ use Rattle.bounds.specs.Posing.{own_row}
 use Rattle.bounds.specs.Loads.{work, cap_of, carried, plain, sum_to, total_of, sum_over}
 use Rattle.bounds.specs.Responses.{Choice, Greatest, carried_loads, plain_loads, extra, limited_load}
 use Rattle.bounds.specs.Climbs.{load_of, Lists, work_at, Picked, Uncapped, NeverFalls}
-use Rattle.bounds.specs.Greatests.{greatest_is, greatest_one}
-use Rattle.bounds.specs.Sums.{sum_same, sum_mono, sum_add, over_mono}
+use Rattle.bounds.specs.Sums.{sum_mono, over_mono}
 use Rattle.bounds.specs.Works.{work_mono}
+use Rattle.bounds.proofs.Summing.{sum_same, sum_add}
+use Rattle.bounds.proofs.Greatests.{greatest_is, greatest_one}
 
 -- a sum over more places, all 0, is the sum before
 sum_past : (f : ℕ → ℕ) (n m : ℕ) → n ≤ m → ((k : ℕ) → n < k → k ≤ m → f k ≡ 0) → sum_to f m ≡ sum_to f n

@@ -23,16 +23,6 @@ no_more_both None (Some y) h k = absurd h
 no_more_both (Some x) None h k = absurd k
 no_more_both (Some x) (Some y) h k = ap Some (omega arith)
 
-pub no_more_join : (a b c : Option ℕ) → NoMore a b → NoMore b c → NoMore a c
-no_more_join None None None h k = tt
-no_more_join None None (Some z) h k = k
-no_more_join None (Some y) None h k = tt
-no_more_join None (Some y) (Some z) h k = h
-no_more_join (Some x) None None h k = tt
-no_more_join (Some x) None (Some z) h k = absurd k
-no_more_join (Some x) (Some y) None h k = tt
-no_more_join (Some x) (Some y) (Some z) h k = omega arith
-
 pub no_more_late : (a : Option ℕ) → NoMore a None
 no_more_late None = tt
 no_more_late (Some x) = tt

@@ -1,6 +1,6 @@
 -- The deadline analysis keeps the laws.
 use Rattle.std.specs.Prelude.{◌≡◌, ℕ, ◌+◌, ◌/◌, Bool, List, None}
-use Rattle.std.proofs.Common.{sym, ap, ◌∙◌, arith}
+use Rattle.std.proofs.Common.{sym, ◌∙◌, arith}
 use Rattle.std.proofs.lemmas.Bool.{cond-true}
 use Rattle.table.specs.declared.row.Row.{Row}
 use Rattle.table.specs.Rows.{row}
@@ -16,17 +16,8 @@ abbrev bound : ℕ → List Row → ℕ → List Bool → ℕ
 bound m rows i s = (row rows i).wcet + deadline_load rows i s / m
 
 -- the answer to a sound question
-da_sound : (m : ℕ) (rows : List Row) (i : ℕ) (s : List Bool) (e : List ℕ) → Sound rows i s e → da m rows i s e ≡ timely (row rows i).deadline (bound m rows i s)
+pub da_sound : (m : ℕ) (rows : List Row) (i : ℕ) (s : List Bool) (e : List ℕ) → Sound rows i s e → da m rows i s e ≡ timely (row rows i).deadline (bound m rows i s)
 da_sound m rows i s e h = cond-true (soundb rows i s e) _ None (sound_test rows i s e h)
-
--- the answer by what was read of the rows
-pub da_read : (m : ℕ) (rows : List Row) (i : ℕ) (s : List Bool) (e : List ℕ) (own : Row) (c d x n : ℕ) → Sound rows i s e → row rows i ≡ own → c ≡ own.wcet → d ≡ own.deadline → x ≡ deadline_load rows i s → n ≡ m → timely d (c + x / n) ≡ da m rows i s e
-da_read m rows i s e own c d x n sound io ce de xe ne =
-    ap (λ k. timely k (c + x / n)) (de ∙ ap (λ (o : Row). o.deadline) (sym io))
-    ∙ ap (λ k. timely (row rows i).deadline (k + x / n)) (ce ∙ ap (λ (o : Row). o.wcet) (sym io))
-    ∙ ap (λ k. timely (row rows i).deadline ((row rows i).wcet + k / n)) xe
-    ∙ ap (λ k. timely (row rows i).deadline ((row rows i).wcet + deadline_load rows i s / k)) ne
-    ∙ sym (da_sound m rows i s e sound)
 
 pub da_laws : Laws {T = Da} (λ d. da d.processors.count)
 da_laws = record {

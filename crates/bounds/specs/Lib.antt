@@ -14,6 +14,5 @@ pub mod Works
 pub mod Sums
 pub mod ResponseLoads
 pub mod Leasts
-pub mod Greatests
 pub mod NamedLaws
 pub mod OverLaws

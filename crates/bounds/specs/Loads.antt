@@ -1,9 +1,9 @@
 -- The load of the tasks above a task in a window, and the deadline analysis.
-use Rattle.std.specs.Prelude.{ℕ, zero, suc, ◌+◌, ◌-◌, ◌*◌, ◌/◌, ◌%◌, min, Bool, false, cond, List, length, None, Option}
+use Rattle.std.specs.Prelude.{◌≡◌, ℕ, zero, suc, ◌+◌, ◌-◌, ◌*◌, ◌/◌, ◌%◌, min, Bool, false, cond, List, length, None, Option}
 use Rattle.table.specs.declared.row.Row.{Row}
 use Rattle.table.specs.Places.{nth}
 use Rattle.table.specs.Rows.{row}
-use Rattle.bounds.specs.Questions.{soundb, timely}
+use Rattle.bounds.specs.Questions.{Sound, soundb, timely}
 
 -- w: the most that a task runs in q, if it runs as early as it may: floor(q / T) × C + the lesser of C and q mod T
 abbrev pub work : Row → ℕ → ℕ
@@ -45,3 +45,11 @@ deadline_load rows i above = sum_over above (deadline_part rows i) (length rows)
 -- da: C + floor(load / m), late past D; an unsound question is late
 abbrev pub da : ℕ → List Row → ℕ → List Bool → List ℕ → Option ℕ
 da m rows i above estimates = cond (soundb rows i above estimates) (timely (row rows i).deadline ((row rows i).wcet + deadline_load rows i above / m)) None
+
+-- da's answer to a sound question is C + floor(load / m), late past D
+abbrev pub DaMeaning : Type 0
+DaMeaning =
+    (m : ℕ) (rows : List Row) (i : ℕ) (above : List Bool) (estimates : List ℕ) →
+    Sound rows i above estimates →
+    da m rows i above estimates
+    ≡ timely (row rows i).deadline ((row rows i).wcet + deadline_load rows i above / m)

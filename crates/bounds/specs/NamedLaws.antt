@@ -1,14 +1,10 @@
 -- A test by name keeps the laws, since each of the tests does.
-use Rattle.std.specs.Prelude.{◌≡◌, ℕ, Bool, ◌⊎◌, List, Ok, codes, Option, refl}
-use Rattle.std.proofs.Common.{ap, ◌∙◌}
+use Rattle.std.specs.Prelude.{ℕ, Bool, List, Option}
 use Rattle.table.specs.declared.row.Row.{Row}
-use Rattle.bounds.specs.declared.processors.Processors.{Processors}
 use Rattle.bounds.specs.declared.named.NamedTest.{NamedTest}
 use Rattle.bounds.specs.declared.named.NamedTest.TheVariants.{ByDeadline, ByResponse, ByLimited}
-use Rattle.table.proofs.Asked.{ok_err}
 use Rattle.bounds.specs.Questions.{Laws}
-use Rattle.bounds.specs.Named.{named_answer, IsNamed, MadeNamed}
-use Rattle.bounds.specs.Made.{MadeOn}
+use Rattle.bounds.specs.Named.{named_answer}
 use Rattle.bounds.specs.DaLaws.{da_laws}
 use Rattle.bounds.specs.ResponseLoads.{rta_laws, lc_laws}
 
@@ -26,10 +22,3 @@ each (ByLimited t) = one lc_laws t
 
 pub named_laws : Laws named_answer
 named_laws = all each
-
--- a test that was made on m processors is the one of its name
-pub made_named : {X : Type 0} (on : X → Processors) (name : List ℕ) (m : ℕ) (x : X) (t : NamedTest) → (name ≡ codes "da") ⊎ ((name ≡ codes "rta") ⊎ (name ≡ codes "lc")) → MadeOn on m (Ok x) → ((on x).count ≡ m → IsNamed name m t) → MadeNamed name m (Ok t)
-made_named on name m x t known made is = (
-  (λ bad. absurd (ok_err x _ (made.0 (λ allowed. bad (known, allowed))))),
-  (λ h. let new = made.1 h.1 in let same : x ≡ new.0 = (let e = new.1 in cc) in (t, refl, is (ap (λ y. (on y).count) same ∙ new.2))),
-)

@@ -1,5 +1,5 @@
 -- What a question is, when it is sound, and the laws that every test keeps.
-use Rattle.std.specs.Prelude.{◌≡◌, ℕ, zero, suc, ◌≤◌, Bool, true, false, cond, not, ◌&&◌, List, length, Some, None, Option, nat_le}
+use Rattle.std.specs.Prelude.{◌≡◌, ℕ, zero, suc, ◌≤◌, Bool, true, false, cond, not, ◌&&◌, ◌↔◌, List, length, Some, None, Option, IsTrue, nat_le}
 use Rattle.table.specs.declared.row.Row.{Row}
 use Rattle.table.specs.Places.{nth}
 use Rattle.table.specs.Rows.{row, view, Names}
@@ -27,9 +27,21 @@ all_to p (suc n) = p (suc n) && all_to p n
 abbrev pub sound_atb : List Row → List Bool → List ℕ → ℕ → Bool
 sound_atb rows above estimates k = cond (nat_le k (length rows)) (nat_le (row rows k).wcet (nth estimates k 0) && nat_le (nth estimates k 0) (row rows k).deadline) (not (nth above k false))
 
--- whether a question is sound, computed: it says what Sound says (sound_decides in Sounds)
+-- whether a question is sound, computed: it says what Sound says (SoundComputed)
 abbrev pub soundb : List Row → ℕ → List Bool → List ℕ → Bool
 soundb rows task above estimates = nat_le (length rows) 32 && (nat_le 1 task && (nat_le task (length rows) && (not (nth above task false) && all_to (sound_atb rows above estimates) 32)))
+
+-- soundb computes true exactly if Sound holds
+abbrev pub SoundComputed : Type 0
+SoundComputed =
+    (rows : List Row) (task : ℕ) (above : List Bool) (estimates : List ℕ) →
+    IsTrue (soundb rows task above estimates) ↔ Sound rows task above estimates
+
+-- the answer to an unsound question is late
+abbrev pub LateIfUnsound : (List Row → ℕ → List Bool → List ℕ → Option ℕ) → Type 0
+LateIfUnsound answer =
+    (rows : List Row) (task : ℕ) (above : List Bool) (estimates : List ℕ) →
+    ¬ Sound rows task above estimates → answer rows task above estimates ≡ None
 
 -- a bound that is late past the deadline
 abbrev pub timely : ℕ → ℕ → Option ℕ

@@ -1,18 +1,16 @@
--- The loads of the response-time analyses grow with the tasks above, with their estimates and with the window.
-use Rattle.std.specs.Prelude.{ℕ, zero, suc, ◌+◌, ◌-◌, ◌≤◌, Bool, false, ◌&&◌, List, length, None, nat_lt}
-use Rattle.std.proofs.Common.{sym, subst, inl, inr, arith}
+-- The loads of the response-time analyses grow with the tasks above and with their estimates, so these keep the laws.
+use Rattle.std.specs.Prelude.{ℕ, zero, suc, ◌+◌, ◌-◌, ◌≤◌, Bool, false, ◌&&◌, List, length, nat_lt}
+use Rattle.std.proofs.Common.{inl, inr, arith}
 use Rattle.std.proofs.lemmas.Bool.{cases_Bool, cond-true, cond-false, and_parts, and_from}
 use Rattle.table.specs.declared.row.Row.{Row}
 use Rattle.table.specs.Places.{nth}
 use Rattle.table.specs.Rows.{row, Names}
 use Rattle.bounds.specs.declared.rta.Rta.{Rta}
 use Rattle.bounds.specs.declared.lc.Lc.{Lc}
-use Rattle.bounds.specs.Questions.{In, Laws, soundb}
+use Rattle.bounds.specs.Questions.{In, Laws}
 use Rattle.bounds.specs.Loads.{carried}
-use Rattle.bounds.specs.Responses.{carried_loads, rta, greatest, plain_loads, extra, limited_load, lc, Least, RtaMeaning, LcMeaning}
-use Rattle.bounds.specs.Leasts.{fit_laws, fit_least}
-use Rattle.bounds.specs.Greatests.{greatest_is}
-use Rattle.bounds.specs.Sounds.{sound_test}
+use Rattle.bounds.specs.Responses.{carried_loads, rta, greatest, plain_loads, extra, limited_load, lc}
+use Rattle.bounds.specs.Leasts.{fit_laws}
 use Rattle.bounds.specs.Sums.{over_mono}
 use Rattle.bounds.specs.Works.{work_mono}
 
@@ -50,14 +48,3 @@ rta_laws = fit_laws (λ (t : Rta). t.processors.count) (λ t. omega (arith, t.pr
 
 pub lc_laws : Laws {T = Lc} (λ t. lc t.processors.count)
 lc_laws = fit_laws (λ (t : Lc). t.processors.count) (λ t. omega (arith, t.processors.ok)) (λ t. limited_load (t.processors.count - 1)) (λ t. limited_load_mono (t.processors.count - 1))
-
-pub rta_means : RtaMeaning
-rta_means m rows i s e sound =
-    subst (Least m (row rows i) (carried_loads rows i s e)) (sym (cond-true (soundb rows i s e) _ None (sound_test rows i s e sound))) (fit_least m (row rows i) (carried_loads rows i s e))
-
-pub lc_means : LcMeaning
-lc_means m rows i s e sound = (
-  (λ l. greatest s (extra rows i e l) (m - 1) (length rows)),
-  (λ l. greatest_is s (extra rows i e l) (m - 1) (length rows)),
-  subst (Least m (row rows i) (limited_load (m - 1) rows i s e)) (sym (cond-true (soundb rows i s e) _ None (sound_test rows i s e sound))) (fit_least m (row rows i) (limited_load (m - 1) rows i s e)),
-)

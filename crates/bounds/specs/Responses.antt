@@ -35,7 +35,10 @@ rta m = answer_by m carried_loads
 
 -- rta's answer to a sound question is the least window that fits the carried loads
 abbrev pub RtaMeaning : Type 0
-RtaMeaning = (m : ℕ) (rows : List Row) (i : ℕ) (above : List Bool) (estimates : List ℕ) → Sound rows i above estimates → Least m (row rows i) (carried_loads rows i above estimates) (rta m rows i above estimates)
+RtaMeaning =
+    (m : ℕ) (rows : List Row) (i : ℕ) (above : List Bool) (estimates : List ℕ) →
+    Sound rows i above estimates →
+    Least m (row rows i) (carried_loads rows i above estimates) (rta m rows i above estimates)
 
 -- a choice of at most c tasks of a set, among the rows 1 to n
 pub record Choice (set : List Bool) (c n : ℕ) (chosen : ℕ → Bool) : Type 0 where
@@ -71,5 +74,8 @@ lc m = answer_by m (limited_load (m - 1))
 -- lc's answer to a sound question is the least window that fits the plain loads plus the greatest total of what a choice of at most m − 1 tasks above adds
 abbrev pub LcMeaning : Type 0
 LcMeaning =
-    (m : ℕ) (rows : List Row) (i : ℕ) (above : List Bool) (estimates : List ℕ) → Sound rows i above estimates →
-    (most : ℕ → ℕ) × ((l : ℕ) → Greatest above (extra rows i estimates l) (m - 1) (length rows) (most l)) × Least m (row rows i) (λ l. plain_loads rows i above l + most l) (lc m rows i above estimates)
+    (m : ℕ) (rows : List Row) (i : ℕ) (above : List Bool) (estimates : List ℕ) →
+    Sound rows i above estimates →
+    (most : ℕ → ℕ)
+    × ((l : ℕ) → Greatest above (extra rows i estimates l) (m - 1) (length rows) (most l))
+    × Least m (row rows i) (λ l. plain_loads rows i above l + most l) (lc m rows i above estimates)

@@ -10,7 +10,8 @@ use Rattle.bounds.specs.Questions.{Sound, In, NoMore, Laws}
 use Rattle.bounds.specs.Loads.{sum_over}
 use Rattle.bounds.specs.Orders.{task_at, Order, first}
 use Rattle.bounds.specs.Responses.{least_from}
-use Rattle.bounds.specs.Leasts.{least_is, least_none, least_before}
+use Rattle.bounds.specs.Leasts.{least_is}
+use Rattle.bounds.proofs.Firsts.{least_none, least_before}
 use Rattle.bounds.proofs.Descents.{first_none, first_more}
 use Rattle.bounds.specs.Sounds.{in_low}
 use Rattle.orders.specs.declared.range.Range.{Range}

@@ -6,7 +6,7 @@ use Rattle.table.specs.declared.row.Row.{Row}
 use Rattle.table.specs.Places.{nth}
 use Rattle.table.specs.Rows.{row, Names}
 use Rattle.table.proofs.Placed.{nth_at, nth_next, nth_put_same, nth_put_other}
-use Rattle.bounds.specs.Sounds.{row_read}
+use Rattle.bounds.proofs.ReadRows.{row_read}
 use Rattle.orders.specs.declared.range.Range.{Range}
 use Rattle.orders.specs.declared.end.End.{End}
 use Rattle.orders.specs.declared.end.End.TheVariants.{Low, High}

@@ -6,7 +6,7 @@ use Rattle.table.specs.Places.{nth}
 use Rattle.table.specs.Rows.{row, Names}
 use Rattle.bounds.specs.Questions.{Sound, Laws}
 use Rattle.bounds.specs.Orders.{task_at, Order, first}
-use Rattle.bounds.specs.Compared.{no_more_join}
+use Rattle.bounds.proofs.Comparing.{no_more_join}
 use Rattle.orders.specs.declared.range.Range.{Range}
 use Rattle.orders.specs.Ranges.{low, high, Within, Contains, Admits, Closed}
 use Rattle.orders.proofs.Sets.{first_in, not_first}

@@ -8,7 +8,7 @@ use Rattle.table.specs.Rows.{row, Names}
 use Rattle.table.proofs.Placed.{nth_replicate, nth_put_same, nth_put_other, length_put}
 use Rattle.bounds.specs.Questions.{In, NoMore, Laws}
 use Rattle.bounds.specs.Orders.{task_at, Order, first, padded, wcets, estimated, answer_at, Bounded, LateAt, Estimates, Holds, HasLate, PassesBy}
-use Rattle.bounds.specs.Compared.{no_more_join}
+use Rattle.bounds.proofs.Comparing.{no_more_join}
 use Rattle.bounds.proofs.Descents.{Reached, reached_none, reached_more, reached_late}
 use Rattle.bounds.proofs.Holding.{holds_not_late}
 use Rattle.bounds.proofs.Padded.{padded_at, padded_length}

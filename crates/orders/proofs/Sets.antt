@@ -10,7 +10,7 @@ use Rattle.bounds.specs.Loads.{sum_to, sum_over}
 use Rattle.bounds.specs.Orders.{task_at, Order, first}
 use Rattle.bounds.proofs.Picked.{count_none, count_set}
 use Rattle.bounds.specs.Sounds.{in_low}
-use Rattle.bounds.specs.Sums.{sum_le}
+use Rattle.bounds.proofs.Summing.{sum_le}
 use Rattle.orders.proofs.Puts.{put_same, put_twice}
 
 -- two sets with the same tasks in 32 places are one

@@ -1,7 +1,8 @@
 // What the deadline analysis answers.
 ghost use Rattle.std.specs.Prelude.{◌≡◌};
-ghost use Rattle.bounds.specs.Loads.{deadline_load, da};
+ghost use Rattle.bounds.specs.Loads.{deadline_load, da, DaMeaning};
 ghost use Rattle.bounds.specs.Made.{MadeDa};
+ghost use Rattle.bounds.specs.Questions.{LateIfUnsound};
 ghost use Rattle.bounds.specs.DaLaws.{da_laws};
 
 use super::Da;
@@ -14,10 +15,12 @@ use crate::work::timely;
 use table::fault::Fault;
 
 impl Da {
-    // Each test has this maker, two of them with a theorem of their own; a shared one would be no plainer.
+    // Each test has this maker, with theorems of its own; a shared one would be no plainer.
     /// The test on `m` processors.
     pub fn new(m: u32) -> Result<Da, Fault>
-        ensures { MadeDa m result }
+        ensures made { MadeDa m result }
+        ensures meaning { DaMeaning }
+        ensures unsound { LateIfUnsound (da m) }
     {
         let processors = Processors::new(m)?;
         Ok(Da { processors })

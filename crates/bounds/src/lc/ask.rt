@@ -1,6 +1,7 @@
 // What the response-time analysis with limited carry-in answers.
 ghost use Rattle.std.specs.Prelude.{◌≡◌};
 ghost use Rattle.bounds.specs.Made.{MadeLc};
+ghost use Rattle.bounds.specs.Questions.{LateIfUnsound};
 ghost use Rattle.bounds.specs.Responses.{lc as answered, LcMeaning};
 ghost use Rattle.bounds.specs.ResponseLoads.{lc_laws};
 
@@ -12,11 +13,12 @@ use crate::test::Test;
 use table::fault::Fault;
 
 impl Lc {
-    // Each test has this maker, two of them with a theorem of their own; a shared one would be no plainer.
+    // Each test has this maker, with theorems of its own; a shared one would be no plainer.
     /// The test on `m` processors.
     pub fn new(m: u32) -> Result<Lc, Fault>
         ensures made { MadeLc m result }
         ensures meaning { LcMeaning }
+        ensures unsound { LateIfUnsound (answered m) }
     {
         let processors = Processors::new(m)?;
         Ok(Lc { processors })

@@ -2,7 +2,7 @@
 ghost use Rattle.std.specs.Prelude.{◌≡◌, ◌+◌, ◌<◌, ◌↔◌, IsTrue};
 ghost use Rattle.table.specs.Rows.{view};
 ghost use Rattle.bounds.specs.Posing.{Poses};
-ghost use Rattle.bounds.specs.Questions.{SoundQuestion, sound_atb};
+ghost use Rattle.bounds.specs.Questions.{SoundQuestion, SoundComputed, sound_atb};
 
 use super::Question;
 use crate::posed::Posed;
@@ -22,7 +22,8 @@ impl<'a> Question<'a> {
 
     /// Whether the question is sound.
     pub fn is_sound(&self) -> bool
-        ensures { IsTrue result ↔ SoundQuestion self.now }
+        ensures sound { IsTrue result ↔ SoundQuestion self.now }
+        ensures computed { SoundComputed }
     {
         let task = self.task;
         if task == 0 || task > self.table.len() || self.above[task - 1] {

@@ -3,9 +3,9 @@ use Rattle.std.proofs.lemmas.Bool.{cond-true, cond-false}
 use Rattle.std.proofs.lemmas.Slice.Zip.{zip_turn}
 use Rattle.bounds.specs.Loads.{sum_over, deadline_part}
 use Rattle.bounds.specs.Posing.{own_row}
-use Rattle.bounds.specs.Sounds.{row_read}
-use Rattle.bounds.specs.Sums.{sum_none, over_more}
-use Rattle.bounds.specs.Works.{deadline_load_le, deadline_part_lem}
+use Rattle.bounds.proofs.DeadlineLoads.{deadline_load_le, deadline_part_lem}
+use Rattle.bounds.proofs.Summing.{sum_none, over_more}
+use Rattle.bounds.proofs.ReadRows.{row_read}
 use Rattle.bounds.proofs.da.ask.load_above.Goals as goal
 
 pub loop-row-init : goal.loop-row-init

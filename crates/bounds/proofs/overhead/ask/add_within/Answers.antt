@@ -1,7 +1,7 @@
 use Rattle.std.proofs.Common.{◌+◌, sym, ap, ◌∙◌}
 use Rattle.table.specs.declared.row.Row.{Row}
 use Rattle.bounds.specs.Questions.{timely}
-use Rattle.bounds.specs.Sounds.{row_named}
+use Rattle.bounds.proofs.ReadRows.{row_named}
 use Rattle.bounds.proofs.overhead.ask.add_within.Goals as goal
 
 pub returns : goal.returns

@@ -1,5 +1,5 @@
 use Rattle.std.proofs.Common.{sym, ◌∙◌}
-use Rattle.bounds.specs.Sounds.{row_named}
+use Rattle.bounds.proofs.ReadRows.{row_named}
 use Rattle.bounds.proofs.posed.Posed.own.Goals as goal
 
 pub returns : goal.returns

@@ -7,13 +7,12 @@ use Rattle.std.proofs.lemmas.Iterator.Search.{all_from_yields_List}
 use Rattle.table.specs.Rows.{view}
 use Rattle.table.proofs.Placed.{nth_at}
 use Rattle.bounds.specs.Questions.{sound_atb}
-use Rattle.bounds.specs.Sounds.{sound_decides}
-use Rattle.bounds.proofs.Sounding.{all_places, sound_by_places}
+use Rattle.bounds.proofs.Sounding.{all_places, sound_by_places, sound_decides}
 use Rattle.bounds.proofs.question.Question.is_sound.Goals as goal
 use Rattle.bounds.proofs.question.Question.is_sound.Goals.{then-task-eq0-via-then-task-eq0, then-task-eq0-via-else-task-eq0+then-task-len, then-task-eq0-via-else-task-eq0+else-task-len+then-self-task}
 
-pub returns-then-task-eq0 : goal.returns-then-task-eq0
-returns-then-task-eq0 c = (
+pub returns-then-task-eq0-clause-sound : goal.returns-then-task-eq0-clause-sound
+returns-then-task-eq0-clause-sound c = (
   (λ no'. absurd (false≢true no')),
   (λ sound. absurd (elim c.then-task-eq0.branch [
     | then-task-eq0-via-then-task-eq0 w ↦ omega (arith, sound.names)
@@ -22,8 +21,8 @@ returns-then-task-eq0 c = (
   ])),
 )
 
-pub returns : goal.returns
-returns c =
+pub returns-clause-sound : goal.returns-clause-sound
+returns-clause-sound c =
     let q = c.args.self.now in
     let rows = view q.table.now in
     let sound = sound_atb rows q.above.now q.estimates.now in
@@ -34,3 +33,9 @@ returns c =
     ∙ sound_by_places rows q.task q.above.now q.estimates.now (omega arith) (omega arith, omega arith) c.if-self-task.false
     )
     (sound_decides rows q.task q.above.now q.estimates.now)
+
+pub returns-then-task-eq0-clause-computed : goal.returns-then-task-eq0-clause-computed
+returns-then-task-eq0-clause-computed c = sound_decides
+
+pub returns-clause-computed : goal.returns-clause-computed
+returns-clause-computed c = sound_decides

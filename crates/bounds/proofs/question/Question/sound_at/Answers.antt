@@ -1,6 +1,6 @@
 use Rattle.std.proofs.Common.{◌+◌, get_or, sym, ap, ◌∙◌, rules}
 use Rattle.bounds.specs.Questions.{sound_atb}
-use Rattle.bounds.specs.Sounds.{sound_row, sound_past}
+use Rattle.bounds.proofs.Sounding.{sound_row, sound_past}
 use Rattle.bounds.proofs.Spans.{spans_one}
 use Rattle.bounds.proofs.question.Question.sound_at.Goals as goal
 

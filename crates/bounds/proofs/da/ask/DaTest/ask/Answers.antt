@@ -1,8 +1,7 @@
 use Rattle.std.proofs.Common.{length, sym, ◌∙◌, div-le_self, arith}
 use Rattle.table.specs.Rows.{view}
 use Rattle.bounds.specs.Loads.{da}
-use Rattle.bounds.specs.DaLaws.{da_read}
-use Rattle.bounds.specs.Works.{deadline_load_le}
+use Rattle.bounds.proofs.DeadlineLoads.{da_read, deadline_load_le}
 use Rattle.bounds.proofs.Posing.{posed_same, unsound_late}
 use Rattle.bounds.proofs.da.ask.DaTest.ask.Goals as goal
 

@@ -1,12 +1,12 @@
 -- The greatest total over a choice: what is computed is what it is, and a choice of the greatest numbers reaches it.
-use Rattle.std.specs.Prelude.{◌≡◌, ℕ, zero, suc, ◌+◌, ◌-◌, ◌*◌, ◌≤◌, Bool, true, false, cond, ◌&&◌, List, ◌==◌, nat_le, nat_lt, refl}
-use Rattle.std.proofs.Common.{sym, ap, ◌∙◌, inl, inr, mul-le-mul_right, arith}
+use Rattle.std.proofs.Common.{◌≡◌, ℕ, zero, suc, ◌+◌, ◌-◌, ◌*◌, ◌≤◌, Bool, true, false, cond, ◌&&◌, List, ◌==◌, leb, ltb, refl, sym, ap, ◌∙◌, inl, inr, mul-le-mul_right, arith}
 use Rattle.std.proofs.lemmas.Bool.{cases_Bool, cases_lt, cond-true, cond-false, and_parts, and_from, lt-ltb, ltb-true, le-leb, lt-leb, eqb-true, eq-eqb, false≢true}
 use Rattle.table.specs.Places.{nth}
 use Rattle.bounds.specs.Questions.{In}
 use Rattle.bounds.specs.Loads.{sum_to, total_of}
 use Rattle.bounds.specs.Responses.{Choice, Greatest, greatest}
-use Rattle.bounds.specs.Sums.{sum_same, sum_mono, sum_add, total_constant}
+use Rattle.bounds.specs.Sums.{sum_mono}
+use Rattle.bounds.proofs.Summing.{sum_same, sum_add, total_constant}
 
 -- no choice exceeds what is computed
 upper : (set : List Bool) (f : ℕ → ℕ) (c n : ℕ) (chosen : ℕ → Bool) → Choice set c n chosen → total_of chosen f n ≤ greatest set f c n
@@ -18,7 +18,7 @@ upper set f c (suc n) chosen h =
           let few = h.few in
           let one = cond-true {A = ℕ} (chosen (suc n)) 1 0 y in
           let rest = upper set f (c - 1) n chosen (record { inside = h.inside; few = omega arith }) in
-          let taken = cond-true _ (greatest set f (c - 1) n + f (suc n)) 0 (and_from (nth set (suc n) false) (nat_lt 0 c) (h.inside (suc n) y) (lt-ltb 0 c (omega arith))) in
+          let taken = cond-true _ (greatest set f (c - 1) n + f (suc n)) 0 (and_from (nth set (suc n) false) (ltb 0 c) (h.inside (suc n) y) (lt-ltb 0 c (omega arith))) in
           omega (arith, rest, taken, cond-true (chosen (suc n)) (f (suc n)) 0 y)
       | inr z ↦
           let few = h.few in
@@ -29,7 +29,7 @@ upper set f c (suc n) chosen h =
 
 -- a choice among n rows, with or without the next one
 abbrev extended : (ℕ → Bool) → ℕ → Bool → ℕ → Bool
-extended p n last k = cond (nat_le k n) (p k) (last && k == suc n)
+extended p n last k = cond (leb k n) (p k) (last && k == suc n)
 
 last_one : (last : Bool) (n : ℕ) → (last && suc n == suc n) ≡ last
 last_one true n = eq-eqb (suc n) (suc n) refl
@@ -38,16 +38,16 @@ last_one false n = refl
 extended_total : (p : ℕ → Bool) (n : ℕ) (last : Bool) (f : ℕ → ℕ) → total_of (extended p n last) f (suc n) ≡ total_of p f n + cond last (f (suc n)) 0
 unfolding sum_to
 extended_total p n last f =
-    let front = sum_same (λ k. cond (extended p n last k) (f k) 0) (λ k. cond (p k) (f k) 0) n (λ k low high. ap (λ b. cond b (f k) 0) (cond-true (nat_le k n) (p k) (last && k == suc n) (le-leb k n high))) in
-    let back : extended p n last (suc n) ≡ last = cond-false (nat_le (suc n) n) (p (suc n)) _ (lt-leb (suc n) n (omega arith)) ∙ last_one last n in
+    let front = sum_same (λ k. cond (extended p n last k) (f k) 0) (λ k. cond (p k) (f k) 0) n (λ k low high. ap (λ b. cond b (f k) 0) (cond-true (leb k n) (p k) (last && k == suc n) (le-leb k n high))) in
+    let back : extended p n last (suc n) ≡ last = cond-false (leb (suc n) n) (p (suc n)) _ (lt-leb (suc n) n (omega arith)) ∙ last_one last n in
     ap (λ x. x + cond (extended p n last (suc n)) (f (suc n)) 0) front ∙ ap (λ b. total_of p f n + cond b (f (suc n)) 0) back
 
 extended_choice : (set : List Bool) (c n : ℕ) (p : ℕ → Bool) (last : Bool) → ((k : ℕ) → p k ≡ true → In set k) → (last ≡ true → In set (suc n)) → total_of p (λ _. 1) n + cond last 1 0 ≤ c → Choice set c (suc n) (extended p n last)
 extended_choice set c n p last inside final few = record {
-  inside = λ k y. elim (cases_Bool (nat_le k n)) [
-    | inl front ↦ inside k (sym (cond-true (nat_le k n) (p k) _ front) ∙ y)
+  inside = λ k y. elim (cases_Bool (leb k n)) [
+    | inl front ↦ inside k (sym (cond-true (leb k n) (p k) _ front) ∙ y)
     | inr back ↦
-        let parts = and_parts last (k == suc n) (sym (cond-false (nat_le k n) (p k) (last && k == suc n) back) ∙ y) in
+        let parts = and_parts last (k == suc n) (sym (cond-false (leb k n) (p k) (last && k == suc n) back) ∙ y) in
         ap (λ j. nth set j false) (eqb-true k (suc n) parts.1) ∙ final parts.0
   ];
   few = omega (arith, extended_total p n last (λ _. 1), few);
@@ -64,9 +64,9 @@ lower set f c (suc n) =
     let left' = extended_choice set c n without.0 false without.1.inside (λ no'. absurd (false≢true no')) (omega (arith, without.1.few)) in
     let leave : greatest set f c (suc n) ≡ greatest set f c n → (chosen : ℕ → Bool) × Choice set c (suc n) chosen × (total_of chosen f (suc n) ≡ greatest set f c (suc n)) =
     λ same. (extended without.0 n false, left', omega (arith, extended_total without.0 n false f, without.2, same)) in
-    elim (cases_Bool (nth set (suc n) false && nat_lt 0 c)) [
+    elim (cases_Bool (nth set (suc n) false && ltb 0 c)) [
       | inl y ↦
-          let parts = and_parts (nth set (suc n) false) (nat_lt 0 c) y in
+          let parts = and_parts (nth set (suc n) false) (ltb 0 c) y in
           let some = ltb-true 0 c parts.1 in
           let is = cond-true _ x 0 y in
           elim (cases_lt (greatest set f c n) x) [
