@@ -2,10 +2,10 @@
 use Rattle.std.specs.Prelude.{◌≡◌, Err, Result}
 use Rattle.table.specs.declared.fault.Fault.{Fault}
 
--- A call asks a question: where it is missed the call is refused, and where it is met the call goes on.
--- A call that asks several nests them, so that the first question missed gives the refusal.
+-- A call asks a question: where it fails the call is refused, and where it holds the call goes on.
+-- A call that asks several nests them, so that the first question that fails gives the refusal.
 abbrev pub Asks : Type 0 → Type 0 → Type 0 → Type 0
-Asks question refused on = ((question → ⊥) → refused) × (question → on)
+Asks question refused on = (¬ question → refused) × (question → on)
 
 -- a call is refused with this fault, and what it was lent is as it was
 abbrev pub Refuses : {S A : Type 0} → Fault → S → Result A Fault → S → Type 0

@@ -4,7 +4,7 @@ use Rattle.std.specs.List.{remove}
 use Rattle.table.specs.Rows.{view}
 use Rattle.table.proofs.Asked.{met}
 use Rattle.table.proofs.Moves.{turned}
-use Rattle.table.proofs.rows.edit.Table+Row.remove.Goals as goal
+use Rattle.table.proofs.rows.Rows+Row.remove.Goals as goal
 
 pub returns : goal.returns
 returns c =

@@ -3,23 +3,23 @@ use native.Mathlib.Bridge.{le_prop}
 use mathlib.Core.Path.{fun_ext}
 use lib.Seq.{take-set-lt, set-get_or}
 use Rattle.std.proofs.lemmas.List.{get_or_default, get_or-take}
-use Rattle.table.specs.declared.rows.Table.{Table}
+use Rattle.table.specs.declared.rows.Rows.{Rows}
 use Rattle.table.specs.Rows.{view, with_row}
 use Rattle.table.proofs.Placed.{nth_at, put_at}
-use Rattle.table.proofs.rows.Table.row_mut.Goals as goal
+use Rattle.table.proofs.rows.Rows.row_mut.Goals as goal
 
-abbrev made : {X : Type 0} (t : Table X) → List X → t.len ≤ 32 → Table X
+abbrev made : {X : Type 0} (t : Rows X) → List X → t.len ≤ 32 → Rows X
 made t rows ok = record { rows = rows; len = t.len; ok = ok }
 
 -- of an order there is one proof at most, so two tables of the same rows are one
-same_loan : {G X Y : Type 0} (name : G) (t : Table X) (a : X → t.len ≤ 32) (place k : ℕ) → place ≡ k - 1 → ◌≡◌ {A = (G × (X → Table X)) ⊎ Y} (inl (name, λ w. made t (set t.rows place w) (a w))) (inl (name, with_row t (k - 1)))
+same_loan : {G X Y : Type 0} (name : G) (t : Rows X) (a : X → t.len ≤ 32) (place k : ℕ) → place ≡ k - 1 → ◌≡◌ {A = (G × (X → Rows X)) ⊎ Y} (inl (name, λ w. made t (set t.rows place w) (a w))) (inl (name, with_row t (k - 1)))
 same_loan {G} {X} {Y} name t a place k is =
-    let lent : (X → Table X) → (G × (X → Table X)) ⊎ Y = λ f. inl (name, f) in
+    let lent : (X → Rows X) → (G × (X → Rows X)) ⊎ Y = λ f. inl (name, f) in
     ap lent (fun_ext (λ w. ap (made t (set t.rows place w)) (le_prop (a w) t.ok))) ∙ ap (λ p. lent (with_row t p)) is
 
 pub returns : goal.returns
 returns g c =
-    let t : Table g.row.X.Denot = c.args.self.now in
+    let t : Rows g.row.X.Denot = c.args.self.now in
     let k : ℕ = c.args.k in
     let place = c.in_ok-place.place in
     let is : place ≡ k - 1 = omega (arith, c.in_ok-place.ensures.named.0) in (

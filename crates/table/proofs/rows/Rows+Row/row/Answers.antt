@@ -4,7 +4,7 @@ use Rattle.table.specs.Places.{nth}
 use Rattle.table.specs.Rows.{view}
 use Rattle.table.proofs.Asked.{met}
 use Rattle.table.proofs.Placed.{nth_next}
-use Rattle.table.proofs.rows.edit.Table+Row.row.Goals as goal
+use Rattle.table.proofs.rows.Rows+Row.row.Goals as goal
 
 pub returns : goal.returns
 returns c =

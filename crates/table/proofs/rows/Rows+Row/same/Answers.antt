@@ -1,7 +1,7 @@
 use Rattle.std.proofs.Common.{sym, ◌∙◌}
 use Rattle.std.proofs.lemmas.Slice.Eq.{slice_eq-Decides}
 use Rattle.table.proofs.Equal.{equal_decides}
-use Rattle.table.proofs.rows.edit.Table+Row.same.Goals as goal
+use Rattle.table.proofs.rows.Rows+Row.same.Goals as goal
 
 pub returns : goal.returns
 returns c =
