@@ -1,11 +1,12 @@
 -- Going down an order: what the bounds found so far are.
-use Rattle.std.proofs.Common.{◌≡◌, ℕ, zero, suc, ◌+◌, ◌-◌, ◌<◌, ◌≤◌, Bool, true, false, List, length, set, replicate, Some, None, Option, sym, refl, ap, ◌∙◌, subst, inl, inr, add-one, arith}
+use Rattle.std.proofs.Common.{◌≡◌, ℕ, zero, suc, ◌+◌, ◌-◌, ◌<◌, ◌≤◌, Bool, true, false, List, length, set, replicate, Some, None, sym, refl, ap, ◌∙◌, subst, inl, inr, add-one, arith}
 use Rattle.std.proofs.lemmas.List.{length-set}
 use Rattle.std.proofs.lemmas.Bool.{cases_eq}
 use Rattle.table.specs.declared.row.Row.{Row}
 use Rattle.table.specs.Places.{nth, put}
 use Rattle.table.proofs.Placed.{put_at, nth_put_same, nth_put_other}
 use Rattle.bounds.specs.Orders.{task_at, Order, first, wcets, estimated, answer_at, Bounded, Found}
+use Rattle.bounds.specs.Questions.{Meaning, question}
 
 pub first_none : (order : List ℕ) → first order 0 ≡ replicate 32 false
 unfolding first
@@ -31,13 +32,13 @@ estimated_same rows order a b (suc p) same =
     ap (λ e. put e (task_at order p) (nth a (task_at order p) 0)) (estimated_same rows order a b p (λ q l. same q (omega arith)))
     ∙ ap (put (estimated rows order b p) (task_at order p)) (same p (omega arith))
 
-module _ {T : Type 0} (answer : T → List Row → ℕ → List Bool → List ℕ → Option ℕ) (t : T) (rows : List Row) (order : List ℕ) where
+module _ (meaning : Meaning) (rows : List Row) (order : List ℕ) where
   -- the first p tasks have their bounds, and the others have none
   pub record Reached (above : List Bool) (estimates bounds : List ℕ) (p : ℕ) : Type 0 where
     pub long : length bounds ≡ length rows
     pub above_is : above ≡ first order p
     pub estimates_are : estimates ≡ estimated rows order bounds p
-    pub bounded : Bounded answer t rows order bounds p
+    pub bounded : Bounded meaning rows order bounds p
     pub rest : (q : ℕ) → p ≤ q → q < length order → nth bounds (task_at order q) 0 ≡ 0
 
   pub reached_none : (above : List Bool) (estimates bounds : List ℕ) → length bounds ≡ length rows → above ≡ replicate 32 false → estimates ≡ wcets rows → ((k : ℕ) → nth bounds k 0 ≡ 0) → Reached above estimates bounds 0
@@ -49,20 +50,20 @@ module _ {T : Type 0} (answer : T → List Row → ℕ → List Bool → List �
     rest = λ q _ _. zeros (task_at order q);
   }
 
-  module _ (above : List Bool) (estimates bounds : List ℕ) (p : ℕ) (o : Order (length rows) order) (r : Reached above estimates bounds p) where
+  module _ (above : List Bool) (estimates bounds : List ℕ) (p : ℕ) (o : Order rows order) (r : Reached above estimates bounds p) where
     abbrev task : ℕ
     task = task_at order p
 
     -- the answer that the test gave
-    pub answered : answer t rows task above estimates ≡ answer_at answer t rows order bounds p
-    answered = ap (λ s. answer t rows task s estimates) r.above_is ∙ ap (answer t rows task (first order p)) r.estimates_are
+    pub answered : meaning (question rows task above estimates) ≡ answer_at meaning rows order bounds p
+    answered = ap (λ s. meaning (question rows task s estimates)) r.above_is ∙ ap (λ e. meaning (question rows task (first order p) e)) r.estimates_are
 
-    pub reached_late : p < length rows → answer t rows task above estimates ≡ None → Found answer t rows order (Some task) bounds
+    pub reached_late : p < length rows → meaning (question rows task above estimates) ≡ None → Found meaning rows order (Some task) bounds
     reached_late l late = (p, (omega (arith, o.size), r.bounded, sym answered ∙ late), refl, r.rest)
 
-    pub reached_more : (b : ℕ) → p < length rows → answer t rows task above estimates ≡ Some b → Reached (set above (task - 1) true) (set estimates (task - 1) b) (set bounds (task - 1) b) (p + 1)
+    pub reached_more : (b : ℕ) → p < length rows → meaning (question rows task above estimates) ≡ Some b → Reached (set above (task - 1) true) (set estimates (task - 1) b) (set bounds (task - 1) b) (p + 1)
     reached_more b l is =
-        let row = o.rows p l in
+        let row = o.each p l in
         let after = set bounds (task - 1) b in
         let written : put bounds task b ≡ after = put_at bounds task b row.0 in
         let here : nth after task 0 ≡ b = ap (λ xs. nth xs task 0) (sym written) ∙ nth_put_same bounds task b 0 row.0 (omega (arith, r.long)) in
@@ -70,8 +71,8 @@ module _ {T : Type 0} (answer : T → List Row → ℕ → List Bool → List �
         λ q m d. ap (λ xs. nth xs (task_at order q) 0) (sym written) ∙ nth_put_other bounds task (task_at order q) b 0 (λ e. d (o.apart q p m l e)) in
         let kept : (n : ℕ) → n ≤ p → estimated rows order bounds n ≡ estimated rows order after n =
         λ n m. estimated_same rows order bounds after n (λ q k. sym (other q (omega arith) (λ e. omega arith))) in
-        let same : (q : ℕ) → q ≤ p → answer_at answer t rows order after q ≡ answer_at answer t rows order bounds q =
-        λ q m. ap (answer t rows (task_at order q) (first order q)) (sym (kept q m)) in
+        let same : (q : ℕ) → q ≤ p → answer_at meaning rows order after q ≡ answer_at meaning rows order bounds q =
+        λ q m. ap (λ e. meaning (question rows (task_at order q) (first order q) e)) (sym (kept q m)) in
         record {
           long = length-set bounds (task - 1) b ∙ r.long;
           above_is = ap (λ s. set s (task - 1) true) r.above_is ∙ sym (put_at (first order p) task true row.0) ∙ sym (first_more order p);
@@ -81,7 +82,7 @@ module _ {T : Type 0} (answer : T → List Row → ℕ → List Bool → List �
               ∙ ap (put (estimated rows order after p) task) (sym here)
               ∙ sym (estimated_more rows order after p);
           bounded = λ q m. elim (cases_eq q p) [
-            | inl e ↦ subst (λ i. answer_at answer t rows order after i ≡ Some (nth after (task_at order i) 0)) (sym e) (same p (omega arith) ∙ sym answered ∙ is ∙ ap Some (sym here))
+            | inl e ↦ subst (λ i. answer_at meaning rows order after i ≡ Some (nth after (task_at order i) 0)) (sym e) (same p (omega arith) ∙ sym answered ∙ is ∙ ap Some (sym here))
             | inr d ↦ same q (omega arith) ∙ r.bounded q (omega arith) ∙ ap Some (sym (other q (omega arith) d))
           ];
           rest = λ q m n. other q (omega (arith, o.size)) (λ e. omega arith) ∙ r.rest q (omega arith) n;

@@ -3,7 +3,6 @@ pub mod Handed
 pub mod Filled
 pub mod Left
 pub mod Listed
-pub mod Making
 pub mod Meets
 pub mod Misses
 pub mod Padded

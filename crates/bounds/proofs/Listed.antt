@@ -2,6 +2,7 @@
 use Rattle.std.proofs.Common.{◌≡◌, ℕ, ◌+◌, ◌-◌, ◌<◌, ◌≤◌, Bool, true, false, List, length, get_or, set, replicate, sym, ap, ◌∙◌, inl, inr, arith}
 use Rattle.std.proofs.lemmas.List.{get_or-set_same, get_or-set_other, get_or-replicate, get_or_past, length-replicate, length-set}
 use Rattle.std.proofs.lemmas.Bool.{cases_eq, cases_lt, both_ways, false≢true}
+use Rattle.table.specs.declared.row.Row.{Row}
 use Rattle.bounds.specs.Orders.{task_at, Order}
 
 -- the first p tasks are rows and apart, and just these are seen
@@ -24,18 +25,18 @@ listed_none n order = record {
   came = λ j y. absurd (false≢true (sym (none_seen j) ∙ y));
 }
 
-module _ (n : ℕ) (order : List ℕ) (seen : List Bool) (p : ℕ) (few : n ≤ 32) (listed : Listed n order seen p) where
+module _ (rows : List Row) (order : List ℕ) (seen : List Bool) (p : ℕ) (few : length rows ≤ 32) (listed : Listed (length rows) order seen p) where
   abbrev task : ℕ
   task = task_at order p
 
   -- a task that was seen stands in two places
-  pub repeated : p < n → get_or seen (task - 1) false ≡ true → 1 ≤ task → Order n order → ⊥
+  pub repeated : p < length rows → get_or seen (task - 1) false ≡ true → 1 ≤ task → Order rows order → ⊥
   repeated l y low o =
       let was = listed.came (task - 1) y in
       let same : was.0 ≡ p = o.apart was.0 p (omega (arith, was.1)) l (omega (arith, was.2)) in
       omega (arith, was.1)
 
-  pub listed_more : 1 ≤ task → task ≤ n → get_or seen (task - 1) false ≡ false → Listed n order (set seen (task - 1) true) (p + 1)
+  pub listed_more : 1 ≤ task → task ≤ length rows → get_or seen (task - 1) false ≡ false → Listed (length rows) order (set seen (task - 1) true) (p + 1)
   listed_more low high new =
       let other : (q : ℕ) → q < p → task_at order q ≡ task → ⊥ =
       λ q l e. both_ways (get_or seen (task - 1) false) new (ap (λ k. get_or seen (k - 1) false) (sym e) ∙ listed.marked q l) in

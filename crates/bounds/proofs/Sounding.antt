@@ -10,7 +10,7 @@ use Rattle.table.specs.declared.row.Row.{Row}
 use Rattle.table.specs.Places.{nth}
 use Rattle.table.specs.Rows.{row, Names}
 use Rattle.table.proofs.Placed.{nth_next, nth_at}
-use Rattle.bounds.specs.Questions.{SoundComputed, all_to, sound_atb, soundb}
+use Rattle.bounds.specs.Questions.{Asked, SoundComputed, all_to, liesb, sound_atb, soundb}
 use Rattle.bounds.specs.Sounds.{sound_from, sound_test}
 use Rattle.bounds.proofs.ReadRows.{row_read}
 
@@ -32,31 +32,31 @@ all_places p n =
     sym (ap (list_all (λ j. p (j + 1))) (take_all n places (omega arith)))
     ∙ all_to_list (λ j. p (j + 1)) p places 0 n (omega arith) (λ i l. ap p (omega (arith, get_or-range_with_len 0 n i 0 l)))
 
-module _ (rows : List Row) (s : List Bool) (e : List ℕ) where
-  pub sound_row : (place : ℕ) (r : Row) → place < length rows → r ≡ get_or rows place r → sound_atb rows s e (place + 1) ≡ (leb r.wcet (get_or e place 0) && leb (get_or e place 0) r.deadline)
+module _ (q : Asked) where
+  pub sound_row : (place : ℕ) (r : Row) → place < length q.rows → r ≡ get_or q.rows place r → sound_atb q (place + 1) ≡ liesb r (get_or q.estimates place 0)
   sound_row place r h is =
-      cond-true _ _ (not (nth s (place + 1) false)) (le-leb (place + 1) (length rows) (omega arith))
-      ∙ ap (λ n. leb (row rows (place + 1)).wcet n && leb n (row rows (place + 1)).deadline) (nth_next e place 0)
-      ∙ ap (λ (q : Row). leb q.wcet (get_or e place 0) && leb (get_or e place 0) q.deadline) (row_read rows place r h is)
+      cond-true _ _ (not (nth q.above (place + 1) false)) (le-leb (place + 1) (length q.rows) (omega arith))
+      ∙ ap (liesb (row q.rows (place + 1))) (nth_next q.estimates place 0)
+      ∙ ap (λ (x : Row). liesb x (get_or q.estimates place 0)) (row_read q.rows place r h is)
 
-  pub sound_past : (place : ℕ) → length rows ≤ place → sound_atb rows s e (place + 1) ≡ not (get_or s place false)
+  pub sound_past : (place : ℕ) → length q.rows ≤ place → sound_atb q (place + 1) ≡ not (get_or q.above place false)
   sound_past place h =
-      cond-false _ (leb (row rows (place + 1)).wcet (nth e (place + 1) 0) && leb (nth e (place + 1) 0) (row rows (place + 1)).deadline) _ (lt-leb (place + 1) (length rows) (omega arith))
-      ∙ ap not (nth_next s place false)
+      cond-false _ (liesb (row q.rows (place + 1)) (nth q.estimates (place + 1) 0)) _ (lt-leb (place + 1) (length q.rows) (omega arith))
+      ∙ ap not (nth_next q.above place false)
 
 -- what is computed is what the facts say
 pub sound_decides : SoundComputed
-sound_decides rows i s e = (sound_from rows i s e, sound_test rows i s e)
+sound_decides q = (sound_from q, sound_test q)
 
-pub sound_computed : (rows : List Row) (i : ℕ) (s : List Bool) (e : List ℕ) → length rows ≤ 32 → 1 ≤ i → i ≤ length rows → get_or s (i - 1) false ≡ false → all_to (sound_atb rows s e) 32 ≡ true → soundb rows i s e ≡ true
-sound_computed rows i s e few low high own all =
-    and_from _ _ (le-leb _ _ few) (and_from _ _ (le-leb _ _ low) (and_from _ _ (le-leb _ _ high) (and_from _ _ (not_from_false (nth s i false) (nth_at s i false low ∙ own)) all)))
+pub sound_computed : (q : Asked) → length q.rows ≤ 32 → Names q.rows q.task → get_or q.above (q.task - 1) false ≡ false → all_to (sound_atb q) 32 ≡ true → soundb q ≡ true
+sound_computed q few named own all =
+    and_from _ _ (le-leb _ _ few) (and_from _ _ (le-leb _ _ named.0) (and_from _ _ (le-leb _ _ named.1) (and_from _ _ (not_from_false (nth q.above q.task false) (nth_at q.above q.task false named.0 ∙ own)) all)))
 
 -- a question of a task that is in the table and not above itself is as sound as its places
-pub sound_by_places : (rows : List Row) (i : ℕ) (s : List Bool) (e : List ℕ) → length rows ≤ 32 → Names rows i → get_or s (i - 1) false ≡ false → all_to (sound_atb rows s e) 32 ≡ soundb rows i s e
-sound_by_places rows i s e few named own =
-    let all = all_to (sound_atb rows s e) 32 in
+pub sound_by_places : (q : Asked) → length q.rows ≤ 32 → Names q.rows q.task → get_or q.above (q.task - 1) false ≡ false → all_to (sound_atb q) 32 ≡ soundb q
+sound_by_places q few named own =
+    let all = all_to (sound_atb q) 32 in
     elim (cases_Bool all) [
-      | inl y ↦ y ∙ sym (sound_computed rows i s e few named.0 named.1 own y)
-      | inr z ↦ z ∙ sym (and_right (leb (length rows) 32) _ (and_right (leb 1 i) _ (and_right (leb i (length rows)) _ (and_right (not (nth s i false)) all z))))
+      | inl y ↦ y ∙ sym (sound_computed q few named own y)
+      | inr z ↦ z ∙ sym (and_right (leb (length q.rows) 32) _ (and_right (leb 1 q.task) _ (and_right (leb q.task (length q.rows)) _ (and_right (not (nth q.above q.task false)) all z))))
     ]

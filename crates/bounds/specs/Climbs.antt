@@ -3,23 +3,18 @@ use Rattle.std.specs.Prelude.{◌≡◌, ℕ, ◌+◌, ◌-◌, ◌*◌, ◌<◌
 use Rattle.table.specs.declared.row.Row.{Row}
 use Rattle.table.specs.Places.{nth}
 use Rattle.table.specs.Rows.{row}
-use Rattle.bounds.specs.declared.posed.Posed.{Posed}
 use Rattle.bounds.specs.declared.tally.Tally.{Tally}
-use Rattle.bounds.specs.Questions.{In}
+use Rattle.bounds.specs.Questions.{Asked, Meaning, In}
 use Rattle.bounds.specs.Loads.{work, cap_of, sum_to, total_of, sum_over}
 use Rattle.bounds.specs.Responses.{answer_by, carried_loads, limited_load}
 
 -- the load in each window: at most so many tasks carry load in, or all do
-abbrev pub loads : Option ℕ → List Row → ℕ → List Bool → List ℕ → ℕ → ℕ
+abbrev pub loads : Option ℕ → Asked → ℕ → ℕ
 loads None = carried_loads
 loads (Some c) = limited_load c
 
--- the load in each window of a posed question
-abbrev pub load_of : Option ℕ → Posed → ℕ → ℕ
-load_of limit q = loads limit q.rows.now q.task q.above.now q.estimates.now
-
 -- the answer of a test that climbs
-abbrev pub climbs : ℕ → Option ℕ → List Row → ℕ → List Bool → List ℕ → Option ℕ
+abbrev pub climbs : ℕ → Option ℕ → Meaning
 climbs m limit = answer_by m (loads limit)
 
 -- a list has f of each number from 1 to 32 in its place
@@ -27,8 +22,11 @@ abbrev pub Lists : (ℕ → ℕ) → List ℕ → Type 0
 Lists f xs = (k : ℕ) → 1 ≤ k → k ≤ 32 → nth xs k 0 ≡ f k
 
 -- the work of task k in a window, before the cap, with its estimate if it carries load in; 0 if it is not above
-abbrev pub work_at : Posed → ℕ → Bool → ℕ → ℕ
-work_at q l carries k = cond (nth q.above.now k false) (cond carries (work (row q.rows.now k) (l + nth q.estimates.now k 0 - (row q.rows.now k).wcet)) (work (row q.rows.now k) l)) 0
+abbrev pub work_at : Asked → ℕ → Bool → ℕ → ℕ
+work_at q l carries k =
+    cond (nth q.above k false)
+    (cond carries (work (row q.rows k) (l + nth q.estimates k 0 - (row q.rows k).wcet)) (work (row q.rows k) l))
+    0
 
 -- the loads of a list in all, each held to a cap
 abbrev pub capped_total : List ℕ → ℕ → ℕ → ℕ

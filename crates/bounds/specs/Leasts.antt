@@ -1,13 +1,13 @@
 -- The least number of which a test holds, and answers that are the least window that fits a load.
-use Rattle.std.specs.Prelude.{◌≡◌, ℕ, zero, suc, ◌+◌, ◌-◌, ◌/◌, ◌<◌, ◌≤◌, Bool, true, cond, List, Some, None, Option, refl}
+use Rattle.std.specs.Prelude.{◌≡◌, ℕ, zero, suc, ◌+◌, ◌-◌, ◌/◌, ◌<◌, ◌≤◌, Bool, true, List, Some, None, Option, refl}
 use Rattle.std.proofs.Common.{sym, ap, ◌∙◌, inl, inr, arith}
 use Rattle.std.proofs.lemmas.Bool.{cases_Bool, cond-true, cond-false, leb-true, le-leb}
 use Rattle.std.proofs.lemmas.Option.{none-some, same_Some}
 use Rattle.table.specs.declared.row.Row.{Row}
 use Rattle.table.specs.Places.{nth}
-use Rattle.table.specs.Rows.{row, Names}
-use Rattle.bounds.specs.Questions.{Sound, NoMore, Laws, In, soundb}
-use Rattle.bounds.specs.Responses.{least_from, least_fit}
+use Rattle.table.specs.Rows.{Names}
+use Rattle.bounds.specs.Questions.{Asked, own, Sound, Lies, NoMore, Laws, In, soundb}
+use Rattle.bounds.specs.Responses.{least_from, least_fit, answer_by}
 use Rattle.bounds.specs.Compared.{given_when, no_more_both}
 use Rattle.bounds.specs.Sounds.{sound_from, sound_test}
 use Rattle.bounds.specs.Works.{div_mono}
@@ -44,7 +44,7 @@ least_mono p q k (suc n) h =
     ]
 
 module _ (m : ℕ) (pos : 0 < m) (i : Row) where
-  pub fit_bound : (load : ℕ → ℕ) (b : ℕ) → least_fit m i load ≡ Some b → (i.wcet ≤ b) × (b ≤ i.deadline)
+  pub fit_bound : (load : ℕ → ℕ) (b : ℕ) → least_fit m i load ≡ Some b → Lies i b
   fit_bound load b is = let found = least_is _ i.wcet (i.deadline - i.wcet + 1) b is in (found.0, omega (arith, found.1, i.ok))
 
   -- a smaller load in each window never gives a greater answer
@@ -53,30 +53,31 @@ module _ (m : ℕ) (pos : 0 < m) (i : Row) where
       least_mono _ _ i.wcet (i.deadline - i.wcet + 1)
       (λ l fits. le-leb (i.wcet + load l / m) l (omega (arith, leb-true (i.wcet + more l / m) l fits, div_mono (load l) (more l) m pos (le l))))
 
--- A test whose answer is the least window that fits its load keeps the laws, if more tasks above and greater estimates of them never give less load.
-module _ {T : Type 0} (m : T → ℕ) (pos : (t : T) → 0 < m t) (load : T → List Row → ℕ → List Bool → List ℕ → ℕ → ℕ)
-    (mono : (t : T) (rows : List Row) (i : ℕ) (s u : List Bool) (e f : List ℕ) → ((k : ℕ) → In s k → In u k) → ((k : ℕ) → Names rows k → In s k → nth e k 0 ≤ nth f k 0) → (l : ℕ) → load t rows i s e l ≤ load t rows i u f l) where
-  -- the least window that fits the load of a question
-  abbrev fit : T → List Row → ℕ → List Bool → List ℕ → Option ℕ
-  fit t rows i s e = least_fit (m t) (row rows i) (load t rows i s e)
+-- more tasks above, and greater estimates of those above, never give less load in a window
+abbrev pub LoadGrows : (Asked → ℕ → ℕ) → Type 0
+LoadGrows load =
+    (q : Asked) (above : List Bool) (estimates : List ℕ) → ((k : ℕ) → In q.above k → In above k) →
+    ((k : ℕ) → Names q.rows k → In q.above k → nth q.estimates k 0 ≤ nth estimates k 0) →
+    (l : ℕ) → load q l ≤ load (record q { above = above; estimates = estimates }) l
 
+-- A test whose answer is the least window that fits its load keeps the laws, if its load grows so.
+module _ (m : ℕ) (pos : 0 < m) (load : Asked → ℕ → ℕ) (mono : LoadGrows load) where
   -- the answer to a sound question
-  pub fit_sound : (t : T) (rows : List Row) (i : ℕ) (s : List Bool) (e : List ℕ) → Sound rows i s e → cond (soundb rows i s e) (fit t rows i s e) None ≡ fit t rows i s e
-  fit_sound t rows i s e h = cond-true (soundb rows i s e) _ None (sound_test rows i s e h)
+  pub fit_sound : (q : Asked) → Sound q → answer_by m load q ≡ least_fit m (own q) (load q)
+  fit_sound q h = cond-true (soundb q) _ None (sound_test q h)
 
-  grows : (t : T) (rows : List Row) (i : ℕ) (s u : List Bool) (e f : List ℕ) → Sound rows i s e → Sound rows i u f → ((k : ℕ) → In s k → In u k) → ((k : ℕ) → Names rows k → In s k → nth e k 0 ≤ nth f k 0) → NoMore (cond (soundb rows i s e) (fit t rows i s e) None) (cond (soundb rows i u f) (fit t rows i u f) None)
-  grows t rows i s u e f h k sub le = rw (fit_sound t rows i s e h, fit_sound t rows i u f k) (fit_mono (m t) (pos t) (row rows i) _ _ (mono t rows i s u e f sub le))
+  grows : (q : Asked) (above : List Bool) (estimates : List ℕ) → let other = record q { above = above; estimates = estimates } in Sound q → Sound other → ((k : ℕ) → In q.above k → In above k) → ((k : ℕ) → Names q.rows k → In q.above k → nth q.estimates k 0 ≤ nth estimates k 0) → NoMore (answer_by m load q) (answer_by m load other)
+  grows q above estimates h k sub le = rw (fit_sound q h, fit_sound (record q { above = above; estimates = estimates }) k) (fit_mono m pos (own q) _ _ (mono q above estimates sub le))
 
-  pub fit_laws : Laws (λ t rows i s e. cond (soundb rows i s e) (fit t rows i s e) None)
+  pub fit_laws : Laws (answer_by m load)
   fit_laws = record {
-    bound = λ t rows i s e b is.
-        let given = given_when (soundb rows i s e) (fit t rows i s e) b is in
-        let lies = fit_bound (m t) (pos t) (row rows i) _ b given.1 in
-        (sound_from rows i s e given.0, lies.0, lies.1);
-    reads = λ t rows i s e f h k same.
+    bound = λ q b is.
+        let given = given_when (soundb q) _ b is in
+        (sound_from q given.0, fit_bound m pos (own q) _ b given.1);
+    reads = λ q f h k same.
         no_more_both _ _
-        (grows t rows i s s e f h k (λ _ y. y) (λ j _ y. omega (arith, same j y)))
-        (grows t rows i s s f e k h (λ _ y. y) (λ j _ y. omega (arith, same j y)));
-    more = λ t rows i s u e h k sub. grows t rows i s u e e h k sub (λ _ _ _. omega arith);
-    greater = λ t rows i s e f h k le. grows t rows i s s e f h k (λ _ y. y) (λ j names _. le j names);
+        (grows q q.above f h k (λ _ y. y) (λ j _ y. omega (arith, same j y)))
+        (grows (record q { estimates = f }) q.above q.estimates k h (λ _ y. y) (λ j _ y. omega (arith, same j y)));
+    more = λ q u h k sub. grows q u q.estimates h k sub (λ _ _ _. omega arith);
+    greater = λ q f h k le. grows q q.above f h k (λ _ y. y) (λ j names _. le j names);
   }

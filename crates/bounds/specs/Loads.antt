@@ -1,9 +1,9 @@
 -- The load of the tasks above a task in a window, and the deadline analysis.
-use Rattle.std.specs.Prelude.{◌≡◌, ℕ, zero, suc, ◌+◌, ◌-◌, ◌*◌, ◌/◌, ◌%◌, min, Bool, false, cond, List, length, None, Option}
+use Rattle.std.specs.Prelude.{◌≡◌, ℕ, zero, suc, ◌+◌, ◌-◌, ◌*◌, ◌/◌, ◌%◌, min, Bool, false, cond, List, length, None}
 use Rattle.table.specs.declared.row.Row.{Row}
 use Rattle.table.specs.Places.{nth}
 use Rattle.table.specs.Rows.{row}
-use Rattle.bounds.specs.Questions.{Sound, soundb, timely}
+use Rattle.bounds.specs.Questions.{Asked, Meaning, own, Sound, soundb, timely}
 
 -- w: the most that a task runs in q, if it runs as early as it may: floor(q / T) × C + the lesser of C and q mod T
 abbrev pub work : Row → ℕ → ℕ
@@ -34,22 +34,22 @@ total_of chosen f n = sum_to (λ k. cond (chosen k) (f k) 0) n
 abbrev pub sum_over : List Bool → (ℕ → ℕ) → ℕ → ℕ
 sum_over set f n = total_of (λ k. nth set k false) f n
 
--- the load that task k carries into the window D of task i, with its deadline as estimate
-abbrev pub deadline_part : List Row → ℕ → ℕ → ℕ
-deadline_part rows i k = carried (row rows i) (row rows i).deadline (row rows k) (row rows k).deadline
+-- the load that task k carries into the window D of the task asked about, with its deadline as estimate
+abbrev pub deadline_part : Asked → ℕ → ℕ
+deadline_part q k = carried (own q) (own q).deadline (row q.rows k) (row q.rows k).deadline
 
 -- da's load: that of all the tasks above
-abbrev pub deadline_load : List Row → ℕ → List Bool → ℕ
-deadline_load rows i above = sum_over above (deadline_part rows i) (length rows)
+abbrev pub deadline_load : Asked → ℕ
+deadline_load q = sum_over q.above (deadline_part q) (length q.rows)
 
--- da: C + floor(load / m), late past D; an unsound question is late
-abbrev pub da : ℕ → List Row → ℕ → List Bool → List ℕ → Option ℕ
-da m rows i above estimates = cond (soundb rows i above estimates) (timely (row rows i).deadline ((row rows i).wcet + deadline_load rows i above / m)) None
+-- C + floor(load / m), late past D
+abbrev pub deadline_answer : ℕ → Meaning
+deadline_answer m q = timely (own q).deadline ((own q).wcet + deadline_load q / m)
+
+-- da: that answer; an unsound question is late
+abbrev pub da : ℕ → Meaning
+da m q = cond (soundb q) (deadline_answer m q) None
 
 -- da's answer to a sound question is C + floor(load / m), late past D
 abbrev pub DaMeaning : Type 0
-DaMeaning =
-    (m : ℕ) (rows : List Row) (i : ℕ) (above : List Bool) (estimates : List ℕ) →
-    Sound rows i above estimates →
-    da m rows i above estimates
-    ≡ timely (row rows i).deadline ((row rows i).wcet + deadline_load rows i above / m)
+DaMeaning = (m : ℕ) (q : Asked) → Sound q → da m q ≡ deadline_answer m q

@@ -8,17 +8,17 @@ use Rattle.table.specs.Faults.{nowhere}
 use Rattle.table.specs.Places.{nth, put}
 use Rattle.table.specs.Rows.{row, Names}
 use Rattle.bounds.specs.declared.miss.Miss.{Miss}
-use Rattle.bounds.specs.Questions.{NoMore}
+use Rattle.bounds.specs.Questions.{Meaning, Lies, NoMore}
 
 -- the task of an order that has p tasks above it
 abbrev pub task_at : List ℕ → ℕ → ℕ
 task_at order p = slice_index order p
 
--- An order lists every one of n rows once: it is as long as the rows are many, each task of it is a row, and no two are the same.
-pub record Order (n : ℕ) (order : List ℕ) : Type 0 where
-  pub size : length order ≡ n
-  pub rows : (p : ℕ) → p < n → (1 ≤ task_at order p) × (task_at order p ≤ n)
-  pub apart : (p q : ℕ) → p < n → q < n → task_at order p ≡ task_at order q → p ≡ q
+-- An order lists every row once: it is as long as the rows are many, each task of it is a row, and no two are the same.
+pub record Order (rows : List Row) (order : List ℕ) : Type 0 where
+  pub size : length order ≡ length rows
+  pub each : (p : ℕ) → p < length rows → Names rows (task_at order p)
+  pub apart : (p q : ℕ) → p < length rows → q < length rows → task_at order p ≡ task_at order q → p ≡ q
 
 -- the first p tasks of an order, as a set
 unfoldable pub first : List ℕ → ℕ → List Bool
@@ -48,17 +48,18 @@ NoneWhen found P = (found ≡ None → P) × (P → found ≡ None)
 
 -- a list is refused: there is no row, or it is no order
 abbrev pub RefusesOrder : List Row → List ℕ → Fault → Type 0
-RefusesOrder rows order fault = Asks (1 ≤ length rows) (fault ≡ Empty) (Asks (Order (length rows) order) (fault ≡ BadOrder nowhere) ⊥)
+RefusesOrder rows order fault = Asks (1 ≤ length rows) (fault ≡ Empty) (Asks (Order rows order) (fault ≡ BadOrder nowhere) ⊥)
 
 -- there is exactly one estimate for each row, from its C to its D
 pub record Estimates (rows : List Row) (estimates : List ℕ) : Type 0 where
   pub size : length estimates ≡ length rows
-  pub within : (k : ℕ) → Names rows k → ((row rows k).wcet ≤ nth estimates k 0) × (nth estimates k 0 ≤ (row rows k).deadline)
+  pub within : (k : ℕ) → Names rows k → Lies (row rows k) (nth estimates k 0)
 
-module _ {T : Type 0} (answer : T → List Row → ℕ → List Bool → List ℕ → Option ℕ) (t : T) (rows : List Row) where
+module _ (meaning : Meaning) (rows : List Row) where
   -- the answer for the task that has p tasks above it, with these estimates in 32 places
   abbrev pub answer_with : List ℕ → List ℕ → ℕ → Option ℕ
-  answer_with order estimates p = answer t rows (task_at order p) (first order p) estimates
+  answer_with order estimates p =
+      meaning (record { rows = rows; task = task_at order p; above = first order p; estimates = estimates })
 
   -- the answer for the task that has p tasks above it, when these have their bounds
   abbrev pub answer_at : List ℕ → List ℕ → ℕ → Option ℕ
@@ -90,7 +91,7 @@ module _ {T : Type 0} (answer : T → List Row → ℕ → List Bool → List �
   abbrev pub Analyses : List ℕ → List ℕ → Result (Option ℕ) Fault → List ℕ → Type 0
   Analyses order before r after =
       Asks (1 ≤ length rows) (Refuses Empty before r after)
-      (Asks (Order (length rows) order) (Refuses (BadOrder nowhere) before r after)
+      (Asks (Order rows order) (Refuses (BadOrder nowhere) before r after)
       (Asks (length before ≡ length rows) (Refuses BadLength before r after)
       ((late : Option ℕ) × (r ≡ Ok late) × Found order late after × (length after ≡ length before) × NoneWhen late (Holds order))))
 
@@ -102,7 +103,7 @@ module _ {T : Type 0} (answer : T → List Row → ℕ → List Bool → List �
   abbrev pub FirstMiss : List ℕ → List ℕ → Option Miss → Type 0
   FirstMiss order estimates miss =
       MatchOption miss ((p : ℕ) → p < length order → MeetsAt order estimates p)
-      (λ x. (p : ℕ) × (p < length order) × (task_at order p ≡ x.task) × (answer_with order (padded estimates) p ≡ x.bound) × (MeetsAt order estimates p → ⊥) × ((q : ℕ) → q < p → MeetsAt order estimates q))
+      (λ x. (p : ℕ) × (p < length order) × (task_at order p ≡ x.task) × (answer_with order (padded estimates) p ≡ x.bound) × ¬ MeetsAt order estimates p × ((q : ℕ) → q < p → MeetsAt order estimates q))
 
   -- an order passes lows and highs, by row: each task's answer, with the lows as estimates, is at most its high
   abbrev pub PassesBy : List ℕ → List ℕ → List ℕ → Type 0
@@ -112,5 +113,5 @@ module _ {T : Type 0} (answer : T → List Row → ℕ → List Bool → List �
   abbrev pub Checks : List ℕ → List ℕ → Result (Option Miss) Fault → Type 0
   Checks order estimates r =
       Asks (1 ≤ length rows) (r ≡ Err Empty)
-      (Asks (Order (length rows) order × Estimates rows estimates) (r ≡ Err (BadOrder nowhere))
+      (Asks (Order rows order × Estimates rows estimates) (r ≡ Err (BadOrder nowhere))
       ((miss : Option Miss) × (r ≡ Ok miss) × FirstMiss order estimates miss × NoneWhen miss (PassesBy (padded estimates) (padded estimates) order)))

@@ -4,22 +4,21 @@ use Rattle.std.proofs.Common.{inl, inr, arith}
 use Rattle.std.proofs.lemmas.Bool.{cases_Bool, cond-true, cond-false, and_parts, and_from}
 use Rattle.table.specs.declared.row.Row.{Row}
 use Rattle.table.specs.Places.{nth}
-use Rattle.table.specs.Rows.{row, Names}
-use Rattle.bounds.specs.declared.rta.Rta.{Rta}
-use Rattle.bounds.specs.declared.lc.Lc.{Lc}
-use Rattle.bounds.specs.Questions.{In, Laws}
+use Rattle.table.specs.Rows.{row}
+use Rattle.bounds.specs.declared.processors.Processors.{Processors}
+use Rattle.bounds.specs.Questions.{Asked, own, In, Laws}
 use Rattle.bounds.specs.Loads.{carried}
 use Rattle.bounds.specs.Responses.{carried_loads, rta, greatest, plain_loads, extra, limited_load, lc}
-use Rattle.bounds.specs.Leasts.{fit_laws}
+use Rattle.bounds.specs.Leasts.{LoadGrows, fit_laws}
 use Rattle.bounds.specs.Sums.{over_mono}
 use Rattle.bounds.specs.Works.{work_mono}
 
 carried_mono : (i : Row) (l : ℕ) (j : Row) (e f : ℕ) → e ≤ f → carried i l j e ≤ carried i l j f
 carried_mono i l j e f h = omega (arith, work_mono j (l + e - j.wcet) (l + f - j.wcet) (omega arith))
 
-carried_loads_mono : (rows : List Row) (i : ℕ) (s u : List Bool) (e f : List ℕ) → ((k : ℕ) → In s k → In u k) → ((k : ℕ) → Names rows k → In s k → nth e k 0 ≤ nth f k 0) → (l : ℕ) → carried_loads rows i s e l ≤ carried_loads rows i u f l
-carried_loads_mono rows i s u e f sub le l =
-    over_mono s u _ _ (length rows) sub (λ k low high y. carried_mono (row rows i) l (row rows k) (nth e k 0) (nth f k 0) (le k (low, high) y))
+carried_loads_mono : LoadGrows carried_loads
+carried_loads_mono q u f sub le l =
+    over_mono q.above u _ _ (length q.rows) sub (λ k low high y. carried_mono (own q) l (row q.rows k) (nth q.estimates k 0) (nth f k 0) (le k (low, high) y))
 
 greatest_mono : (s u : List Bool) (f g : ℕ → ℕ) (c n : ℕ) → ((k : ℕ) → In s k → In u k) → ((k : ℕ) → 1 ≤ k → k ≤ n → In s k → f k ≤ g k) → greatest s f c n ≤ greatest u g c n
 unfolding greatest
@@ -36,15 +35,15 @@ greatest_mono s u f g c (suc n) sub le =
       | inr no' ↦ omega (arith, without, cond-false _ x 0 no')
     ]
 
-limited_load_mono : (c : ℕ) (rows : List Row) (i : ℕ) (s u : List Bool) (e f : List ℕ) → ((k : ℕ) → In s k → In u k) → ((k : ℕ) → Names rows k → In s k → nth e k 0 ≤ nth f k 0) → (l : ℕ) → limited_load c rows i s e l ≤ limited_load c rows i u f l
-limited_load_mono c rows i s u e f sub le l =
-    let own = row rows i in
-    let plains : plain_loads rows i s l ≤ plain_loads rows i u l = over_mono s u _ _ (length rows) sub (λ k low high y. omega arith) in
-    let extras = greatest_mono s u (extra rows i e l) (extra rows i f l) c (length rows) sub (λ k low high y. omega (arith, carried_mono own l (row rows k) (nth e k 0) (nth f k 0) (le k (low, high) y))) in
+limited_load_mono : (c : ℕ) → LoadGrows (limited_load c)
+limited_load_mono c q u f sub le l =
+    let other : Asked = record q { above = u; estimates = f } in
+    let plains : plain_loads q l ≤ plain_loads other l = over_mono q.above u _ _ (length q.rows) sub (λ k low high y. omega arith) in
+    let extras = greatest_mono q.above u (extra q l) (extra other l) c (length q.rows) sub (λ k low high y. omega (arith, carried_mono (own q) l (row q.rows k) (nth q.estimates k 0) (nth f k 0) (le k (low, high) y))) in
     omega (arith, plains, extras)
 
-pub rta_laws : Laws {T = Rta} (λ t. rta t.processors.count)
-rta_laws = fit_laws (λ (t : Rta). t.processors.count) (λ t. omega (arith, t.processors.ok)) (λ _. carried_loads) (λ _. carried_loads_mono)
+pub rta_laws : (p : Processors) → Laws (rta p.count)
+rta_laws p = fit_laws p.count (omega (arith, p.ok)) carried_loads carried_loads_mono
 
-pub lc_laws : Laws {T = Lc} (λ t. lc t.processors.count)
-lc_laws = fit_laws (λ (t : Lc). t.processors.count) (λ t. omega (arith, t.processors.ok)) (λ t. limited_load (t.processors.count - 1)) (λ t. limited_load_mono (t.processors.count - 1))
+pub lc_laws : (p : Processors) → Laws (lc p.count)
+lc_laws p = fit_laws p.count (omega (arith, p.ok)) (limited_load (p.count - 1)) (limited_load_mono (p.count - 1))

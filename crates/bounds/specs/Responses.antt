@@ -3,7 +3,7 @@ use Rattle.std.specs.Prelude.{◌≡◌, ℕ, zero, suc, ◌+◌, ◌-◌, ◌/�
 use Rattle.table.specs.declared.row.Row.{Row}
 use Rattle.table.specs.Places.{nth}
 use Rattle.table.specs.Rows.{row}
-use Rattle.bounds.specs.Questions.{Sound, In, soundb}
+use Rattle.bounds.specs.Questions.{Asked, Meaning, own, Sound, In, soundb}
 use Rattle.bounds.specs.Loads.{carried, plain, sum_over, total_of}
 
 -- the least number from k on, among n, of which p holds
@@ -22,23 +22,21 @@ Least m i load r =
     (λ b. (i.wcet ≤ b) × (b ≤ i.deadline) × (i.wcet + load b / m ≤ b) × ((l : ℕ) → i.wcet ≤ l → l < b → i.wcet + load l / m ≤ l → ⊥))
 
 -- the answer by a load: the least window that fits it; an unsound question is late
-abbrev pub answer_by : ℕ → (List Row → ℕ → List Bool → List ℕ → ℕ → ℕ) → List Row → ℕ → List Bool → List ℕ → Option ℕ
-answer_by m load rows i above estimates = cond (soundb rows i above estimates) (least_fit m (row rows i) (load rows i above estimates)) None
+abbrev pub answer_by : ℕ → (Asked → ℕ → ℕ) → Meaning
+answer_by m load q = cond (soundb q) (least_fit m (own q) (load q)) None
 
 -- rta's load in a window: the carried loads of the tasks above with their estimates
-abbrev pub carried_loads : List Row → ℕ → List Bool → List ℕ → ℕ → ℕ
-carried_loads rows i above estimates l = sum_over above (λ k. carried (row rows i) l (row rows k) (nth estimates k 0)) (length rows)
+abbrev pub carried_loads : Asked → ℕ → ℕ
+carried_loads q l =
+    sum_over q.above (λ k. carried (own q) l (row q.rows k) (nth q.estimates k 0)) (length q.rows)
 
 -- rta: the answer by the carried loads
-abbrev pub rta : ℕ → List Row → ℕ → List Bool → List ℕ → Option ℕ
+abbrev pub rta : ℕ → Meaning
 rta m = answer_by m carried_loads
 
 -- rta's answer to a sound question is the least window that fits the carried loads
 abbrev pub RtaMeaning : Type 0
-RtaMeaning =
-    (m : ℕ) (rows : List Row) (i : ℕ) (above : List Bool) (estimates : List ℕ) →
-    Sound rows i above estimates →
-    Least m (row rows i) (carried_loads rows i above estimates) (rta m rows i above estimates)
+RtaMeaning = (m : ℕ) (q : Asked) → Sound q → Least m (own q) (carried_loads q) (rta m q)
 
 -- a choice of at most c tasks of a set, among the rows 1 to n
 pub record Choice (set : List Bool) (c n : ℕ) (chosen : ℕ → Bool) : Type 0 where
@@ -56,26 +54,25 @@ greatest set f c zero = 0
 greatest set f c (suc n) = max (greatest set f c n) (cond (nth set (suc n) false && nat_lt 0 c) (greatest set f (c - 1) n + f (suc n)) 0)
 
 -- the plain loads of the tasks above in a window
-abbrev pub plain_loads : List Row → ℕ → List Bool → ℕ → ℕ
-plain_loads rows i above l = sum_over above (λ k. plain (row rows i) l (row rows k)) (length rows)
+abbrev pub plain_loads : Asked → ℕ → ℕ
+plain_loads q l = sum_over q.above (λ k. plain (own q) l (row q.rows k)) (length q.rows)
 
 -- what task k adds to its plain load in a window if it carries load in
-abbrev pub extra : List Row → ℕ → List ℕ → ℕ → ℕ → ℕ
-extra rows i estimates l k = carried (row rows i) l (row rows k) (nth estimates k 0) - plain (row rows i) l (row rows k)
+abbrev pub extra : Asked → ℕ → ℕ → ℕ
+extra q l k = carried (own q) l (row q.rows k) (nth q.estimates k 0) - plain (own q) l (row q.rows k)
 
 -- lc's load in a window: the plain loads plus the greatest total of what at most c tasks add by carrying load in
-abbrev pub limited_load : ℕ → List Row → ℕ → List Bool → List ℕ → ℕ → ℕ
-limited_load c rows i above estimates l = plain_loads rows i above l + greatest above (extra rows i estimates l) c (length rows)
+abbrev pub limited_load : ℕ → Asked → ℕ → ℕ
+limited_load c q l = plain_loads q l + greatest q.above (extra q l) c (length q.rows)
 
 -- lc: the answer by the load of which at most m − 1 tasks carry in
-abbrev pub lc : ℕ → List Row → ℕ → List Bool → List ℕ → Option ℕ
+abbrev pub lc : ℕ → Meaning
 lc m = answer_by m (limited_load (m - 1))
 
 -- lc's answer to a sound question is the least window that fits the plain loads plus the greatest total of what a choice of at most m − 1 tasks above adds
 abbrev pub LcMeaning : Type 0
 LcMeaning =
-    (m : ℕ) (rows : List Row) (i : ℕ) (above : List Bool) (estimates : List ℕ) →
-    Sound rows i above estimates →
+    (m : ℕ) (q : Asked) → Sound q →
     (most : ℕ → ℕ)
-    × ((l : ℕ) → Greatest above (extra rows i estimates l) (m - 1) (length rows) (most l))
-    × Least m (row rows i) (λ l. plain_loads rows i above l + most l) (lc m rows i above estimates)
+    × ((l : ℕ) → Greatest q.above (extra q l) (m - 1) (length q.rows) (most l))
+    × Least m (own q) (λ l. plain_loads q l + most l) (lc m q)

@@ -4,7 +4,7 @@ use Rattle.std.proofs.Common.{ap, inl, inr, mul-le-mul_right, div-mul-le_self, a
 use Rattle.std.proofs.lemmas.Nat.{div-add-mod', le-div}
 use Rattle.std.proofs.lemmas.Bool.{cases_lt}
 use Rattle.table.specs.declared.row.Row.{Row}
-use Rattle.bounds.specs.Questions.{In}
+use Rattle.bounds.specs.Questions.{Asked, In}
 use Rattle.bounds.specs.Loads.{work, deadline_load}
 use Rattle.bounds.specs.Sums.{over_mono}
 
@@ -29,6 +29,5 @@ work_mono j a b h =
           omega (arith, products, wholes, div-add-mod' a j.period, div-add-mod' b j.period)
     ]
 
-module _ (rows : List Row) (i : ℕ) where
-  pub deadline_load_mono : (s u : List Bool) → ((k : ℕ) → In s k → In u k) → deadline_load rows i s ≤ deadline_load rows i u
-  deadline_load_mono s u sub = over_mono s u _ _ (length rows) sub (λ k low high m. omega arith)
+pub deadline_load_mono : (q : Asked) (above : List Bool) → ((k : ℕ) → In q.above k → In above k) → deadline_load q ≤ deadline_load (record q { above = above })
+deadline_load_mono q above sub = over_mono q.above above _ _ (length q.rows) sub (λ k low high m. omega arith)

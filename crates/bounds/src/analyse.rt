@@ -7,15 +7,12 @@ use crate::estimates::wcets_of;
 use crate::ordered::Ordered;
 use crate::question::Question;
 use crate::test::Test;
-use table::fault::Fault;
-use table::row::Row;
-use table::rows::Table;
+use table::{Fault, Table};
 
-// Goes down the order until a task is late, and writes each bound in its row's place. Not one loop with
-// that of `check`: a closure for what differs would have to change what it captures, and is no plainer.
+// Goes down the order until a task is late, and writes each bound in its row's place.
 fn find_bounds<T: Test>(test: &T, ordered: &Ordered<'_>, bounds: &mut [u32]) -> Option<usize>
     requires { length bounds.old ≡ length (view ordered.now.table.now) }
-    ensures { Found T.answer test.now (view ordered.now.table.now) ordered.now.order.now result bounds.new }
+    ensures { Found (T.answer test.now) (view ordered.now.table.now) ordered.now.order.now result bounds.new }
 {
     let mut above = [false; 32];
     let mut estimates = wcets_of(ordered.table.rows());
@@ -38,15 +35,16 @@ fn find_bounds<T: Test>(test: &T, ordered: &Ordered<'_>, bounds: &mut [u32]) -> 
 }
 
 /// Finds the bounds of the order's tasks from the top down, writes row `k`'s in place `k`, and 0 for
-/// the first late task and all below it. The answer is the first late task, if there is one. The list is
-/// the caller's, of numbers, so by the rules what has no bound has 0.
+/// the first late task and all below it. The answer is the first late task, if there is one. Refused where
+/// the table has no row (13), the list is no order of its rows (17), or the list for the bounds has not one
+/// place a row (18); the bounds are then as they were.
 pub fn analyse<T: Test>(
     test: &T,
-    table: &Table<Row>,
+    table: &Table,
     order: &[usize],
     bounds: &mut [u32],
 ) -> Result<Option<usize>, Fault>
-    ensures { Analyses T.answer test.now (view table.now) order.now bounds.old result bounds.new }
+    ensures { Analyses (T.answer test.now) (view table.now) order.now bounds.old result bounds.new }
 {
     let ordered = Ordered::new(table, order)?;
     if bounds.len() != table.len() {

@@ -10,9 +10,7 @@ use crate::miss::Miss;
 use crate::ordered::Ordered;
 use crate::question::Question;
 use crate::test::Test;
-use table::fault::{Fault, Place};
-use table::row::Row;
-use table::rows::Table;
+use table::{Fault, Place, Row, Table};
 
 // Whether each estimate lies from its row's wcet to its deadline.
 fn all_lie(rows: &[Row], estimates: &[u32]) -> bool
@@ -33,7 +31,7 @@ fn are_estimates(rows: &[Row], estimates: &[u32]) -> bool
 // Goes down the order to the first task that misses its estimate.
 fn first_miss<T: Test>(test: &T, ordered: &Ordered<'_>, estimates: &[u32]) -> Option<Miss>
     requires { length estimates.now ≡ length (view ordered.now.table.now) }
-    ensures { FirstMiss T.answer test.now (view ordered.now.table.now) ordered.now.order.now estimates.now result }
+    ensures { FirstMiss (T.answer test.now) (view ordered.now.table.now) ordered.now.order.now estimates.now result }
 {
     let all = padded(estimates);
     let mut above = [false; 32];
@@ -55,14 +53,15 @@ fn first_miss<T: Test>(test: &T, ordered: &Ordered<'_>, estimates: &[u32]) -> Op
 }
 
 /// Checks an order and an estimate for each row, in its place. The answer is the first task from the
-/// top whose own answer is late or above its estimate, with that answer, if there is one.
+/// top whose own answer is late or above its estimate, with that answer, if there is one. Refused where the
+/// table has no row (13), or the lists are no order and estimates of its rows (17).
 pub fn check<T: Test>(
     test: &T,
-    table: &Table<Row>,
+    table: &Table,
     order: &[usize],
     estimates: &[u32],
 ) -> Result<Option<Miss>, Fault>
-    ensures { Checks T.answer test.now (view table.now) order.now estimates.now result }
+    ensures { Checks (T.answer test.now) (view table.now) order.now estimates.now result }
 {
     let ordered = Ordered::new(table, order)?;
     if !are_estimates(table.rows(), estimates) {

@@ -1,8 +1,8 @@
 // The climb to the least window that fits its load. What cannot fit is skipped.
 ghost use Rattle.std.specs.Prelude.{◌≡◌};
-ghost use Rattle.bounds.specs.Climbs.{load_of, NeverFalls, climbs};
-ghost use Rattle.bounds.specs.Posing.{own_row};
-ghost use Rattle.bounds.specs.Questions.{asked};
+ghost use Rattle.bounds.specs.Climbs.{loads, NeverFalls, climbs};
+ghost use Rattle.bounds.specs.Posing.{question_of};
+ghost use Rattle.bounds.specs.Questions.{asked, own};
 ghost use Rattle.bounds.specs.Responses.{least_fit};
 
 use crate::posed::Posed;
@@ -13,8 +13,8 @@ use crate::window::Window;
 
 // The least window from the task's wcet to its deadline that is long enough for its load.
 fn least_window(m: Processors, limit: Option<u32>, q: &Posed<'_>) -> Option<u32>
-    ensures found { result ≡ least_fit m.count (own_row q.now) (load_of limit q.now) }
-    ensures rises { NeverFalls (load_of limit q.now) }
+    ensures found { let asked = question_of q.now in result ≡ least_fit m.count (own asked) (loads limit asked) }
+    ensures rises { NeverFalls (loads limit (question_of q.now)) }
 {
     let own = q.own();
     let wcet = own.wcet();
@@ -37,7 +37,7 @@ fn least_window(m: Processors, limit: Option<u32>, q: &Posed<'_>) -> Option<u32>
 
 // The answer of a test that climbs. `limit` is how many of the tasks above may carry load in; without it all may.
 pub(crate) fn answer_by_climb(m: Processors, limit: Option<u32>, q: &Question<'_>) -> Option<u32>
-    ensures { result ≡ asked (climbs m.count) limit q.now }
+    ensures { result ≡ climbs m.count limit (asked q.now) }
 {
     let q = q.posed()?;
     least_window(m, limit, &q)

@@ -3,7 +3,7 @@ ghost use Rattle.std.specs.Prelude.{◌≡◌, slice_index};
 ghost use Rattle.bounds.specs.Orders.{padded as filled, wcet_list, wcets};
 
 use std::array;
-use table::row::Row;
+use table::Row;
 
 // The numbers in their places, and 0 past the last.
 pub(crate) fn padded(numbers: &[u32]) -> [u32; 32]

@@ -19,3 +19,13 @@ mod tally;
 pub mod test;
 mod window;
 mod work;
+
+pub use da::Da;
+pub use lc::Lc;
+pub use miss::Miss;
+pub use named::NamedTest;
+pub use overhead::{MOST_ADDED, Overhead};
+pub use processors::Processors;
+pub use question::Question;
+pub use rta::Rta;
+pub use test::Test;

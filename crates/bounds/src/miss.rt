@@ -1,4 +1,6 @@
-// A task that misses its estimate: its answer is late or above it.
+// What check finds.
+
+/// A task that misses its estimate, and its answer: late (none), or above the estimate.
 #[derive(Clone, Copy, PartialEq, Eq, Debug)]
 pub struct Miss {
     pub task: usize,

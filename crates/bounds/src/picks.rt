@@ -2,8 +2,7 @@
 ghost use Rattle.std.specs.Prelude.{◌≡◌};
 ghost use Rattle.bounds.specs.Climbs.{Picked, GreatestLeft};
 
-// The place of the greatest number that is not chosen, if one of these is above 0. By place, since the place is
-// what is asked for: pairs out of two lists would be no plainer.
+// The place of the greatest number that is not chosen, if one of these is above 0.
 fn greatest_left(numbers: &[u32; 32], chosen: &[bool; 32]) -> Option<usize>
     ensures { GreatestLeft numbers.now chosen.now result }
 {

@@ -3,7 +3,7 @@ ghost use Rattle.std.specs.Prelude.{◌≡◌, ◌≤◌};
 ghost use Rattle.bounds.specs.Loads.{work};
 ghost use Rattle.bounds.specs.Questions.{timely as timely_bound};
 
-use table::row::Row;
+use table::Row;
 
 // The most that a task runs in `q`, if it runs as early as it may.
 pub(crate) fn work_in(row: Row, q: u32) -> u32

@@ -6,7 +6,7 @@ use Rattle.std.proofs.lemmas.Bool.{cases_eq, cases_lt, and_parts, and_from, both
 use Rattle.table.specs.declared.row.Row.{Row}
 use Rattle.table.specs.Places.{nth, put}
 use Rattle.table.proofs.Placed.{nth_put_same, nth_put_other, nth_replicate, length_put}
-use Rattle.bounds.specs.Questions.{Sound, In, NoMore, Laws}
+use Rattle.bounds.specs.Questions.{Meaning, question, Sound, In, NoMore, Laws}
 use Rattle.bounds.specs.Loads.{sum_over}
 use Rattle.bounds.specs.Orders.{task_at, Order, first}
 use Rattle.bounds.specs.Responses.{least_from}
@@ -39,9 +39,9 @@ at_most_less None (Some b) x h y = absurd h
 at_most_less (Some a) None x h y = absurd (false≢true y)
 at_most_less (Some a) (Some b) x h y = le-leb a x (omega (arith, h, leb-true b x y))
 
-module _ {T : Type 0} {answer : T → List Row → ℕ → List Bool → List ℕ → Option ℕ} (laws : Laws answer) (t : T) (rows : List Row) (r : Range) where
+module _ {meaning : Meaning} (laws : Laws meaning) (rows : List Row) (r : Range) where
   abbrev ok : List Bool → ℕ → Bool
-  ok = candidate answer t rows r
+  ok = candidate meaning rows r
 
   ok_low : (left : List Bool) (k : ℕ) → ok left k ≡ true → 1 ≤ k
   ok_low left k h = in_low left k (and_parts (nth left k false) _ h).0
@@ -51,20 +51,19 @@ module _ {T : Type 0} {answer : T → List Row → ℕ → List Bool → List �
   fewer left k p d h =
       let parts = and_parts (nth left p false) _ h in
       let few = put (put left k false) p false in
-      let got = at_most_some (answer t rows p (put left p false) r.lows) (high r p) parts.1 in
-      let sound = (laws.bound t rows p (put left p false) r.lows got.0 got.1).0 in
+      let got = at_most_some (meaning (question rows p (put left p false) r.lows)) (high r p) parts.1 in
+      let sound = (laws.bound (question rows p (put left p false) r.lows) got.0 got.1).0 in
       let sub : (j : ℕ) → In few j → In (put left p false) j =
       λ j m. let a = was_in (put left k false) p j m in still_in left p j a.0 (was_in left k j a.1).1 in
-      let small : Sound rows p few r.lows = record {
+      let small : Sound (question rows p few r.lows) = record {
         few = sound.few;
         names = sound.names;
         inside = λ j l m. sound.inside j l (sub j m);
         apart = both_ways _ (out (put left k false) p);
-        low = sound.low;
-        high = sound.high;
+        lies = sound.lies;
       } in
       and_from (nth (put left k false) p false) _ (still_in left k p d parts.0)
-      (at_most_less (answer t rows p few r.lows) (answer t rows p (put left p false) r.lows) (high r p) (laws.more t rows p few (put left p false) r.lows small sound sub) parts.1)
+      (at_most_less (meaning (question rows p few r.lows)) (meaning (question rows p (put left p false) r.lows)) (high r p) (laws.more (question rows p few r.lows) (put left p false) small sound sub) parts.1)
 
   -- l tasks of a set in an order from the lowest level up, each of which passes below those that are left
   data Fillable : ℕ → List Bool → Type 0 where
@@ -82,9 +81,9 @@ module _ {T : Type 0} {answer : T → List Row → ℕ → List Bool → List �
   ]
 
   abbrev Nothing : ℕ → Type 0
-  Nothing l = (left : List Bool) (placed : List ℕ) → fill answer t rows r l left placed ≡ None → Fillable l left → ⊥
+  Nothing l = (left : List Bool) (placed : List ℕ) → fill meaning rows r l left placed ≡ None → Fillable l left → ⊥
 
-  after : (l : ℕ) → Nothing l → (left : List Bool) (placed : List ℕ) (f : Option ℕ) → least_from (ok left) 1 (length rows) ≡ f → option_and_then (λ k. fill answer t rows r l (put left k false) (k ∷ placed)) f ≡ None → Fillable (suc l) left → ⊥
+  after : (l : ℕ) → Nothing l → (left : List Bool) (placed : List ℕ) (f : Option ℕ) → least_from (ok left) 1 (length rows) ≡ f → option_and_then (λ k. fill meaning rows r l (put left k false) (k ∷ placed)) f ≡ None → Fillable (suc l) left → ⊥
   after l below left placed None was is (lowest k inside passed rest) = least_none (ok left) 1 (length rows) was k (ok_low left k passed) (omega arith) passed
   after l below left placed (Some p) was is o = below (put left p false) (p ∷ placed) is (exchange l left p (least_is (ok left) 1 (length rows) p was).2 o)
 
@@ -94,9 +93,9 @@ module _ {T : Type 0} {answer : T → List Row → ℕ → List Bool → List �
   no_order (suc l) left placed is o = after l (no_order l) left placed (least_from (ok left) 1 (length rows)) refl is o
 
   -- an order that passes fills the levels
-  module _ (few : length rows ≤ 32) (order : List ℕ) (o : Order (length rows) order) (passes : Passes answer t rows r order) where
+  module _ (few : length rows ≤ 32) (order : List ℕ) (o : Order rows order) (passes : Passes meaning rows r order) where
     restored : (p : ℕ) → p < length rows → put (first order (p + 1)) (task_at order p) false ≡ first order p
-    restored p l = ap (λ s. put s (task_at order p) false) (first_more order p) ∙ put_back (first order p) (task_at order p) false (not_first (length rows) few order o p p (omega arith) l) (o.rows p l).0
+    restored p l = ap (λ s. put s (task_at order p) false) (first_more order p) ∙ put_back (first order p) (task_at order p) false (not_first rows few order o p p (omega arith) l) (o.each p l).0
 
     fillable : (p : ℕ) → p ≤ length rows → Fillable p (first order p)
     fillable zero le = none
@@ -105,17 +104,17 @@ module _ {T : Type 0} {answer : T → List Row → ℕ → List Bool → List �
         let k = task_at order p in
         let same : first order (suc p) ≡ first order (p + 1) = ap (first order) (sym (add-one p)) in
         let passed : ok (first order (p + 1)) k ≡ true =
-        and_from _ _ (ap (λ s. nth s k false) (first_more order p) ∙ nth_put_same (first order p) k true false (o.rows p l).0 (omega (arith, (o.rows p l).1, first_length order p)))
-        (ap (λ s. at_most (answer t rows k s r.lows) (high r k)) (restored p l) ∙ at_most_test _ _ (passes p (omega (arith, o.size)))) in
-        subst (Fillable (suc p)) (sym same) (lowest k (o.rows p l).1 passed (subst (Fillable p) (sym (restored p l)) (fillable p (omega arith))))
+        and_from _ _ (ap (λ s. nth s k false) (first_more order p) ∙ nth_put_same (first order p) k true false (o.each p l).0 (omega (arith, (o.each p l).1, first_length order p)))
+        (ap (λ s. at_most (meaning (question rows k s r.lows)) (high r k)) (restored p l) ∙ at_most_test _ _ (passes p (omega (arith, o.size)))) in
+        subst (Fillable (suc p)) (sym same) (lowest k (o.each p l).1 passed (subst (Fillable p) (sym (restored p l)) (fillable p (omega arith))))
 
     first_full : first order (length rows) ≡ full (length rows)
     first_full = same_set _ _ (first_length order (length rows)) (full_length (length rows)) (λ k a b. elim (cases_lt (length rows) k) [
-      | inl past ↦ first_out (length rows) order o (length rows) k (omega arith) past ∙ sym (full_out (length rows) k past)
-      | inr in' ↦ every (length rows) few order o k a in' ∙ sym (full_in (length rows) k a in' b)
+      | inl past ↦ first_out rows order o (length rows) k (omega arith) past ∙ sym (full_out (length rows) k past)
+      | inr in' ↦ every rows few order o k (a, in') ∙ sym (full_in (length rows) k a in' b)
     ])
 
-    pub not_none : fill answer t rows r (length rows) (full (length rows)) [] ≡ None → ⊥
+    pub not_none : fill meaning rows r (length rows) (full (length rows)) [] ≡ None → ⊥
     not_none is = no_order (length rows) (full (length rows)) [] is (subst (Fillable (length rows)) first_full (fillable (length rows) (omega arith)))
 
   -- an order of just the tasks of a set, each of which passes
@@ -183,9 +182,9 @@ module _ {T : Type 0} {answer : T → List Row → ℕ → List Bool → List �
         }
 
     abbrev Found' : ℕ → Type 0
-    Found' l = (left : List Bool) (placed order : List ℕ) → Tasks left l → fill answer t rows r l left placed ≡ Some order → (front : List ℕ) × (order ≡ front ++ placed) × Ordered left front l
+    Found' l = (left : List Bool) (placed order : List ℕ) → Tasks left l → fill meaning rows r l left placed ≡ Some order → (front : List ℕ) × (order ≡ front ++ placed) × Ordered left front l
 
-    found_after : (l : ℕ) → Found' l → (left : List Bool) (placed order : List ℕ) (f : Option ℕ) → Tasks left (suc l) → least_from (ok left) 1 (length rows) ≡ f → option_and_then (λ k. fill answer t rows r l (put left k false) (k ∷ placed)) f ≡ Some order → (front : List ℕ) × (order ≡ front ++ placed) × Ordered left front (suc l)
+    found_after : (l : ℕ) → Found' l → (left : List Bool) (placed order : List ℕ) (f : Option ℕ) → Tasks left (suc l) → least_from (ok left) 1 (length rows) ≡ f → option_and_then (λ k. fill meaning rows r l (put left k false) (k ∷ placed)) f ≡ Some order → (front : List ℕ) × (order ≡ front ++ placed) × Ordered left front (suc l)
     found_after l below left placed order None h was is = absurd (none-some order is)
     found_after l below left placed order (Some k) h was is =
         let found = least_is (ok left) 1 (length rows) k was in
@@ -207,35 +206,35 @@ module _ {T : Type 0} {answer : T → List Row → ℕ → List Bool → List �
     all_tasks = record { long = full_length (length rows); count = count_all (full (length rows)) (length rows) (λ k a b. full_in (length rows) k a b (omega arith)); named = full_out (length rows) }
 
     -- what is found lists every row once and passes
-    pub found_admits : (order : List ℕ) → fill answer t rows r (length rows) (full (length rows)) [] ≡ Some order → Admits answer t rows r order
+    pub found_admits : (order : List ℕ) → fill meaning rows r (length rows) (full (length rows)) [] ≡ Some order → Admits meaning rows r order
     found_admits order is =
         let found = found_all (length rows) (full (length rows)) [] order all_tasks is in
         let o = found.2 in
         let same : order ≡ found.0 = found.1 ∙ append-nil found.0 in
-        let lists : Order (length rows) found.0 = record { size = o.size; rows = o.inside; apart = o.apart } in
-        let passes : Passes answer t rows r found.0 =
+        let lists : Order rows found.0 = record { size = o.size; each = o.inside; apart = o.apart } in
+        let passes : Passes meaning rows r found.0 =
         λ p l. let m : p < length rows = omega (arith, o.size) in
-        let back = ap (λ s. put s (task_at found.0 p) false) (first_more found.0 p) ∙ put_back (first found.0 p) (task_at found.0 p) false (not_first (length rows) few found.0 lists p p (omega arith) m) (o.inside p m).0 in
-        at_most_from _ _ (ap (λ s. at_most (answer t rows (task_at found.0 p) s r.lows) (high r (task_at found.0 p))) (sym back) ∙ (and_parts (nth (first found.0 (p + 1)) (task_at found.0 p) false) _ (o.pass p m)).1) in
-        subst (Admits answer t rows r) (sym same) (lists, passes)
+        let back = ap (λ s. put s (task_at found.0 p) false) (first_more found.0 p) ∙ put_back (first found.0 p) (task_at found.0 p) false (not_first rows few found.0 lists p p (omega arith) m) (o.inside p m).0 in
+        at_most_from _ _ (ap (λ s. at_most (meaning (question rows (task_at found.0 p) s r.lows)) (high r (task_at found.0 p))) (sym back) ∙ (and_parts (nth (first found.0 (p + 1)) (task_at found.0 p) false) _ (o.pass p m)).1) in
+        subst (Admits meaning rows r) (sym same) (lists, passes)
 
     -- and on each level no lower-numbered task would pass
-    found_lowest : (order : List ℕ) → fill answer t rows r (length rows) (full (length rows)) [] ≡ Some order → LowestNumbered answer t rows r order
+    found_lowest : (order : List ℕ) → fill meaning rows r (length rows) (full (length rows)) [] ≡ Some order → LowestNumbered meaning rows r order
     found_lowest order is =
         let found = found_all (length rows) (full (length rows)) [] order all_tasks is in
-        subst (LowestNumbered answer t rows r) (sym (found.1 ∙ append-nil found.0))
+        subst (LowestNumbered meaning rows r) (sym (found.1 ∙ append-nil found.0))
         (λ p l k below member passes. found.2.lowest p l k (in_low _ k member) below (and_from (nth (first found.0 (p + 1)) k false) _ member (at_most_test _ _ passes)))
 
     -- the range is decided
-    pub decided : (found : Option (List ℕ)) → assigned answer t rows r ≡ found → MatchOption found (Closed answer t rows r) (λ order. Admits answer t rows r order)
+    pub decided : (found : Option (List ℕ)) → assigned meaning rows r ≡ found → MatchOption found (Closed meaning rows r) (λ order. Admits meaning rows r order)
     decided None is = λ order admits. not_none few order admits.0 admits.1 is
     decided (Some order) is = found_admits order is
 
     -- what follows from the assigner's rule
-    pub finds_if_open : (found : Option (List ℕ)) → Assigns answer t rows r found → FindsIfOpen answer t rows r found
+    pub finds_if_open : (found : Option (List ℕ)) → Assigns meaning rows r found → FindsIfOpen meaning rows r found
     finds_if_open None is within = decided None (is.1 within)
     finds_if_open (Some tasks) is within = decided (Some (take (length rows) tasks)) (is.1 within).0
 
-    pub fills_lowest : Within rows r → (found : Option (List ℕ)) → Assigns answer t rows r found → FillsLowest answer t rows r found
+    pub fills_lowest : Within rows r → (found : Option (List ℕ)) → Assigns meaning rows r found → FillsLowest meaning rows r found
     fills_lowest within None is = tt
     fills_lowest within (Some tasks) is = found_lowest (take (length rows) tasks) (is.1 within).0

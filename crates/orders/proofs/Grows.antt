@@ -5,7 +5,7 @@ use Rattle.std.proofs.lemmas.Bool.{cases_eq, cases_lt}
 use Rattle.table.specs.declared.row.Row.{Row}
 use Rattle.table.specs.Rows.{Names}
 use Rattle.table.proofs.Placed.{nth_put_other}
-use Rattle.bounds.specs.Questions.{Laws}
+use Rattle.bounds.specs.Questions.{Meaning, Laws}
 use Rattle.orders.specs.declared.range.Range.{Range}
 use Rattle.orders.specs.declared.end.End.{End}
 use Rattle.orders.specs.declared.end.End.TheVariants.{Low, High}
@@ -37,26 +37,26 @@ narrowed round left tried rest l few some le halves one = elim (cases_lt round 3
 ]
 
 -- An end of row k has been moved out, and this much is left to move it: any farther leaves the range open.
-pub record MovedOut {T : Type 0} (answer : T → List Row → ℕ → List Bool → List ℕ → Option ℕ) (t : T) (rows : List Row) (end : End) (r : Range) (k left : ℕ) (q : Range) : Type 0 where
+pub record MovedOut (meaning : Meaning) (rows : List Row) (end : End) (r : Range) (k left : ℕ) (q : Range) : Type 0 where
   by : ℕ
   is : q ≡ moved end r k by
   inside : by + left ≤ reach end rows r k
-  opens : (b : ℕ) → by + left < b → b ≤ reach end rows r k → Closed answer t rows (moved end r k b) → ⊥
+  opens : (b : ℕ) → by + left < b → b ≤ reach end rows r k → Closed meaning rows (moved end r k b) → ⊥
 
-module _ {T : Type 0} {answer : T → List Row → ℕ → List Bool → List ℕ → Option ℕ} (laws : Laws answer) (t : T) (rows : List Row) (few : length rows ≤ 32) where
+module _ {meaning : Meaning} (laws : Laws meaning) (rows : List Row) (few : length rows ≤ 32) where
   abbrev Shut : Range → Type 0
-  Shut r = Closed answer t rows r
+  Shut r = Closed meaning rows r
 
-  by_answer : (r : Range) → (found : Option (List ℕ)) → assigned answer t rows r ≡ found → Open answer t rows r ⊎ Shut r
-  by_answer r None is = inr (decided laws t rows r few None is)
-  by_answer r (Some order) is = inl (order, decided laws t rows r few (Some order) is)
+  by_answer : (r : Range) → (found : Option (List ℕ)) → assigned meaning rows r ≡ found → Open meaning rows r ⊎ Shut r
+  by_answer r None is = inr (decided laws rows r few None is)
+  by_answer r (Some order) is = inl (order, decided laws rows r few (Some order) is)
 
   -- a range is open or closed
-  pub open_or_closed : (r : Range) → Open answer t rows r ⊎ Shut r
-  open_or_closed r = by_answer r (assigned answer t rows r) refl
+  pub open_or_closed : (r : Range) → Open meaning rows r ⊎ Shut r
+  open_or_closed r = by_answer r (assigned meaning rows r) refl
 
   -- an end is grown once nothing is left
-  grown_at : (end : End) (r : Range) → Within rows r → (k : ℕ) → Names rows k → (q : Range) → MovedOut answer t rows end r k 0 q → Shut q → EndGrown answer t rows end r k q
+  grown_at : (end : End) (r : Range) → Within rows r → (k : ℕ) → Names rows k → (q : Range) → MovedOut meaning rows end r k 0 q → Shut q → EndGrown meaning rows end r k q
   grown_at Low r within k names q out shut = record {
     value = low r k - out.by;
     is = out.is;
@@ -80,17 +80,17 @@ module _ {T : Type 0} {answer : T → List Row → ℕ → List Bool → List �
     abbrev names : Names rows k
     names = (omega arith, omega arith)
 
-    pub out_none : MovedOut answer t rows end r k (reach end rows r k) r
+    pub out_none : MovedOut meaning rows end r k (reach end rows r k) r
     out_none = record { by = 0; is = sym (moved_none end r k names.0); inside = omega arith; opens = λ b far near. absurd (omega arith) }
 
     pub short : reach end rows r k < 1000000
     short = reach_short rows r within k names end
 
     -- what is left of the reach
-    pub left_in_reach : (left : ℕ) (q : Range) → MovedOut answer t rows end r k left q → left ≤ reach end rows q k
+    pub left_in_reach : (left : ℕ) (q : Range) → MovedOut meaning rows end r k left q → left ≤ reach end rows q k
     left_in_reach left q out = omega (arith, out.inside, ap (λ x. reach end rows x k) out.is ∙ reach_moved rows r within k names end out.by)
 
-    pub out_more : (left tried : ℕ) (q wider : Range) → MovedOut answer t rows end r k left q → tried ≤ left → wider ≡ moved end q k tried → MovedOut answer t rows end r k (left - tried) wider
+    pub out_more : (left tried : ℕ) (q wider : Range) → MovedOut meaning rows end r k left q → tried ≤ left → wider ≡ moved end q k tried → MovedOut meaning rows end r k (left - tried) wider
     out_more left tried q wider out le is = record {
       by = out.by + tried;
       is = is ∙ ap (λ x. moved end x k tried) out.is ∙ moved_twice rows r within k names end out.by tried;
@@ -99,7 +99,7 @@ module _ {T : Type 0} {answer : T → List Row → ℕ → List Bool → List �
     }
 
     -- what is open stays open farther out
-    pub out_less : (left tried : ℕ) (q : Range) → MovedOut answer t rows end r k left q → 1 ≤ tried → tried ≤ left → (Within rows (moved end q k tried) → Shut (moved end q k tried) → ⊥) → MovedOut answer t rows end r k (tried - 1) q
+    pub out_less : (left tried : ℕ) (q : Range) → MovedOut meaning rows end r k left q → 1 ≤ tried → tried ≤ left → (Within rows (moved end q k tried) → Shut (moved end q k tried) → ⊥) → MovedOut meaning rows end r k (tried - 1) q
     out_less left tried q out pos le opened = record {
       by = out.by;
       is = out.is;
@@ -108,15 +108,15 @@ module _ {T : Type 0} {answer : T → List Row → ℕ → List Bool → List �
           let here : moved end q k tried ≡ moved end r k (out.by + tried) = ap (λ x. moved end x k tried) out.is ∙ moved_twice rows r within k names end out.by tried in
           let lies = moved_within rows r within k names end (out.by + tried) (omega (arith, out.inside)) in
           opened (subst (Within rows) (sym here) lies)
-          (subst Shut (sym here) (narrowing laws t rows few (moved end r k b) (moved end r k (out.by + tried)) (moved_within rows r within k names end b near) lies (moved_contains rows r within k names end (out.by + tried) b (omega arith)) closed));
+          (subst Shut (sym here) (narrowing laws rows few (moved end r k b) (moved end r k (out.by + tried)) (moved_within rows r within k names end b near) lies (moved_contains rows r within k names end (out.by + tried) b (omega arith)) closed));
     }
 
-    pub end_grown : (left : ℕ) (q : Range) → MovedOut answer t rows end r k left q → left ≡ 0 → Shut q → EndGrown answer t rows end r k q
-    end_grown left q out none shut = grown_at end r within k names q (subst (λ n. MovedOut answer t rows end r k n q) none out) shut
+    pub end_grown : (left : ℕ) (q : Range) → MovedOut meaning rows end r k left q → left ≡ 0 → Shut q → EndGrown meaning rows end r k q
+    end_grown left q out none shut = grown_at end r within k names q (subst (λ n. MovedOut meaning rows end r k n q) none out) shut
 
   -- a row more is grown, counted from 0
-  pub grown_next : (r : Range) (place : ℕ) (before lower after : Range) → GrownTo answer t rows r place before → LowGrown answer t rows before (place + 1) lower → HighGrown answer t rows lower (place + 1) after → GrownTo answer t rows r (place + 1) after
-  grown_next r place before lower after = subst (λ k. GrownTo answer t rows r place before → LowGrown answer t rows before k lower → HighGrown answer t rows lower k after → GrownTo answer t rows r k after) (omega arith) (λ g l h. next g l h)
+  pub grown_next : (r : Range) (place : ℕ) (before lower after : Range) → GrownTo meaning rows r place before → LowGrown meaning rows before (place + 1) lower → HighGrown meaning rows lower (place + 1) after → GrownTo meaning rows r (place + 1) after
+  grown_next r place before lower after = subst (λ k. GrownTo meaning rows r place before → LowGrown meaning rows before k lower → HighGrown meaning rows lower k after → GrownTo meaning rows r k after) (omega arith) (λ g l h. next g l h)
 
   -- the first k rows are grown: no wider end of theirs leaves the range closed
   record State (r : Range) (k : ℕ) (q : Range) : Type 0 where
@@ -143,21 +143,21 @@ module _ {T : Type 0} {answer : T → List Row → ℕ → List Bool → List �
         | inr d ↦ ((c j nj).0, omega (arith, nth_put_other q.highs k j (high w k) 0 d, (c j nj).1))
       ]
 
-  low_value : (r : Range) (k : ℕ) (q : Range) → Within rows r → Names rows k → Shut r → (g : LowGrown answer t rows r k q) → g.value ≤ low r k
+  low_value : (r : Range) (k : ℕ) (q : Range) → Within rows r → Names rows k → Shut r → (g : LowGrown meaning rows r k q) → g.value ≤ low r k
   low_value r k q within names closed g =
       elim (cases_lt (low r k) g.value) [
-        | inl l ↦ absurd (g.below (low r k) (within k names).0 l (narrowing laws t rows few r (with_low r k (low r k)) within (within_low rows r within k names (low r k) (within k names).0 (omega arith)) (contains_at_low r r k names within (λ j h. (omega arith, omega arith))) closed))
+        | inl l ↦ absurd (g.below (low r k) (within k names).0 l (narrowing laws rows few r (with_low r k (low r k)) within (within_low rows r within k names (low r k) (within k names).0 (omega arith)) (contains_at_low r r k names within (λ j h. (omega arith, omega arith))) closed))
         | inr le ↦ le
       ]
 
-  high_value : (r : Range) (k : ℕ) (q : Range) → Within rows r → Names rows k → Shut r → (g : HighGrown answer t rows r k q) → high r k ≤ g.value
+  high_value : (r : Range) (k : ℕ) (q : Range) → Within rows r → Names rows k → Shut r → (g : HighGrown meaning rows r k q) → high r k ≤ g.value
   high_value r k q within names closed g =
       elim (cases_lt g.value (high r k)) [
-        | inl l ↦ absurd (g.above (high r k) l (within k names).2 (narrowing laws t rows few r (with_high r k (high r k)) within (within_high rows r within k names (high r k) (omega arith) (within k names).2) (contains_at_high r r k names within (λ j h. (omega arith, omega arith))) closed))
+        | inl l ↦ absurd (g.above (high r k) l (within k names).2 (narrowing laws rows few r (with_high r k (high r k)) within (within_high rows r within k names (high r k) (omega arith) (within k names).2) (contains_at_high r r k names within (λ j h. (omega arith, omega arith))) closed))
         | inr le ↦ le
       ]
 
-  state_low : (r : Range) (k : ℕ) (q low' : Range) → State r k q → Names rows (suc k) → LowGrown answer t rows q (suc k) low' → Within rows low' × Contains rows low' q × Shut low'
+  state_low : (r : Range) (k : ℕ) (q low' : Range) → State r k q → Names rows (suc k) → LowGrown meaning rows q (suc k) low' → Within rows low' × Contains rows low' q × Shut low'
   state_low r k q low' s names g =
       let le = low_value q (suc k) low' s.within names s.closed g in (
         subst (Within rows) (sym g.is) (within_low rows q s.within (suc k) names g.value g.least le),
@@ -165,7 +165,7 @@ module _ {T : Type 0} {answer : T → List Row → ℕ → List Bool → List �
         g.closed,
       )
 
-  state_next : (r : Range) (k : ℕ) (q low' high' : Range) → State r k q → Names rows (suc k) → LowGrown answer t rows q (suc k) low' → HighGrown answer t rows low' (suc k) high' → State r (suc k) high'
+  state_next : (r : Range) (k : ℕ) (q low' high' : Range) → State r k q → Names rows (suc k) → LowGrown meaning rows q (suc k) low' → HighGrown meaning rows low' (suc k) high' → State r (suc k) high'
   state_next r k q low' high' s names gl gh =
       let lower = state_low r k q low' s names gl in
       let ge = high_value low' (suc k) high' lower.0 names lower.2 gh in
@@ -186,12 +186,12 @@ module _ {T : Type 0} {answer : T → List Row → ℕ → List Bool → List �
                     let lw : low w (suc k) < gl.value = omega (arith, l, ap (low w) e, ap (low high') e, kept, low_is) in
                     let narrow = contains_at_low w q (suc k) names s.within (contains_join w high' q c over) in
                     gl.below (low w (suc k)) (hw (suc k) names).0 lw
-                    (narrowing laws t rows few w (with_low q (suc k) (low w (suc k))) hw (within_low rows q s.within (suc k) names (low w (suc k)) (hw (suc k) names).0 (contains_join w high' q c over (suc k) names).0) narrow shut)
+                    (narrowing laws rows few w (with_low q (suc k) (low w (suc k))) hw (within_low rows q s.within (suc k) names (low w (suc k)) (hw (suc k) names).0 (contains_join w high' q c over (suc k) names).0) narrow shut)
                 | inr l ↦
                     let hl : gh.value < high w (suc k) = omega (arith, l, ap (high w) e, ap (high high') e, high_is) in
                     let narrow = contains_at_high w low' (suc k) names lower.0 (contains_join w high' low' c up) in
                     gh.above (high w (suc k)) hl (hw (suc k) names).2
-                    (narrowing laws t rows few w (with_high low' (suc k) (high w (suc k))) hw (within_high rows low' lower.0 (suc k) names (high w (suc k)) (contains_join w high' low' c up (suc k) names).1 (hw (suc k) names).2) narrow shut)
+                    (narrowing laws rows few w (with_high low' (suc k) (high w (suc k))) hw (within_high rows low' lower.0 (suc k) names (high w (suc k)) (contains_join w high' low' c up (suc k) names).1 (hw (suc k) names).2) narrow shut)
               ]
               | inr d ↦
                   let same_low : low high' j ≡ low q j = ap (λ x. low x j) gh.is ∙ ap (λ x. low x j) gl.is ∙ nth_put_other q.lows (suc k) j gl.value 0 d in
@@ -203,12 +203,12 @@ module _ {T : Type 0} {answer : T → List Row → ℕ → List Bool → List �
   state_start : (r : Range) → Within rows r → Shut r → State r 0 r
   state_start r within closed = record { within = within; closed = closed; contains = λ k h. (omega arith, omega arith); maximal = λ w hw c j nj le. absurd (omega arith) }
 
-  state_of : (r : Range) → Within rows r → Shut r → {k : ℕ} {q : Range} → GrownTo answer t rows r k q → k ≤ length rows → State r k q
+  state_of : (r : Range) → Within rows r → Shut r → {k : ℕ} {q : Range} → GrownTo meaning rows r k q → k ≤ length rows → State r k q
   state_of r within closed start le = state_start r within closed
   state_of r within closed (next {k} {before} {lower} {after} g gl gh) le = state_next r k before lower after (state_of r within closed g (omega arith)) (omega arith, omega arith) gl gh
 
   -- the grown range is maximal
-  pub grown_maximal : (r q : Range) → Within rows r → Shut r → GrownTo answer t rows r (length rows) q → Maximal answer t rows r q
+  pub grown_maximal : (r q : Range) → Within rows r → Shut r → GrownTo meaning rows r (length rows) q → Maximal meaning rows r q
   grown_maximal r q within closed g =
       let s = state_of r within closed g (omega arith) in (
         s.contains,

@@ -2,6 +2,8 @@
 use Rattle.std.proofs.Common.{◌≡◌, ℕ, zero, suc, ◌+◌, ◌-◌, ◌<◌, ◌≤◌, Bool, true, false, cond, not, ltb, List, length, get_or, set, sym, refl, ap, ◌∙◌, inl, inr, mul-one, add-one, arith}
 use Rattle.std.proofs.lemmas.List.{ext_get_or, get_or_past, get_or-set_same, get_or-set_other, length-set, length-replicate}
 use Rattle.std.proofs.lemmas.Bool.{cases_eq, cases_Bool, cases_lt, cond-true, cond-false, both_ways, lt-ltb, le-ltb}
+use Rattle.table.specs.declared.row.Row.{Row}
+use Rattle.table.specs.Rows.{Names}
 use Rattle.table.specs.Places.{nth, put}
 use Rattle.table.proofs.Placed.{nth_at, nth_next, put_at, nth_put_same, nth_put_other, nth_replicate, length_put, nth_none}
 use Rattle.orders.specs.Assigner.{full}
@@ -55,8 +57,8 @@ first_in order (suc p) k y =
       | inr d ↦ let was = first_in order p k (sym (nth_put_other (first order p) (task_at order p) k true false d) ∙ y) in (was.0, omega (arith, was.1), was.2)
     ]
 
-module _ (n : ℕ) (few : n ≤ 32) (order : List ℕ) (o : Order n order) where
-  pub not_first : (p q : ℕ) → p ≤ q → q < n → nth (first order p) (task_at order q) false ≡ false
+module _ (rows : List Row) (few : length rows ≤ 32) (order : List ℕ) (o : Order rows order) where
+  pub not_first : (p q : ℕ) → p ≤ q → q < length rows → nth (first order p) (task_at order q) false ≡ false
   not_first p q le l =
       elim (cases_Bool (nth (first order p) (task_at order q) false)) [
         | inl y ↦ absurd (let was = first_in order p (task_at order q) y in let e = o.apart was.0 q (omega (arith, was.1)) l was.2 in omega (arith, was.1))
@@ -64,14 +66,14 @@ module _ (n : ℕ) (few : n ≤ 32) (order : List ℕ) (o : Order n order) where
       ]
 
   -- p tasks are among the first p
-  count_first : (p : ℕ) → p ≤ n → sum_over (first order p) (λ _. 1) n ≡ p
+  count_first : (p : ℕ) → p ≤ length rows → sum_over (first order p) (λ _. 1) (length rows) ≡ p
   unfolding first
-  count_first zero le = count_none n
+  count_first zero le = count_none (length rows)
   count_first (suc p) le =
       let k = task_at order p in
-      let row = o.rows p (omega arith) in
-      ap (λ s. sum_over s (λ _. 1) n) (put_at (first order p) k true row.0)
-      ∙ count_set (first order p) (k - 1) n (omega (arith, row.1)) (omega (arith, row.1, first_length order p)) (sym (nth_at (first order p) k false row.0) ∙ not_first p p (omega arith) (omega arith))
+      let row = o.each p (omega arith) in
+      ap (λ s. sum_over s (λ _. 1) (length rows)) (put_at (first order p) k true row.0)
+      ∙ count_set (first order p) (k - 1) (length rows) (omega (arith, row.1)) (omega (arith, row.1, first_length order p)) (sym (nth_at (first order p) k false row.0) ∙ not_first p p (omega arith) (omega arith))
       ∙ ap (λ x. x + 1) (count_first p (omega arith)) ∙ add-one p
 
 -- a set of n tasks among n has them all
@@ -86,8 +88,8 @@ all_in s (suc n) h k low high =
     ]
 
 -- every row stands in an order
-pub every : (n : ℕ) → n ≤ 32 → (order : List ℕ) → Order n order → (k : ℕ) → 1 ≤ k → k ≤ n → In (first order n) k
-every n few order o = all_in (first order n) n (omega (arith, count_first n few order o n (omega arith)))
+pub every : (rows : List Row) → length rows ≤ 32 → (order : List ℕ) → Order rows order → (k : ℕ) → Names rows k → In (first order (length rows)) k
+every rows few order o k names = all_in (first order (length rows)) (length rows) (omega (arith, count_first rows few order o (length rows) (omega arith))) k names.0 names.1
 
 -- the set of all tasks of n rows
 pub full_length : (n : ℕ) → length (full n) ≡ 32
@@ -121,10 +123,10 @@ full_by n s long h =
     ])
 
 -- no number past the last row is among the first of an order
-pub first_out : (n : ℕ) (order : List ℕ) → Order n order → (p k : ℕ) → p ≤ n → n < k → nth (first order p) k false ≡ false
-first_out n order o p k le past =
+pub first_out : (rows : List Row) (order : List ℕ) → Order rows order → (p k : ℕ) → p ≤ length rows → length rows < k → nth (first order p) k false ≡ false
+first_out rows order o p k le past =
     elim (cases_Bool (nth (first order p) k false)) [
-      | inl y ↦ absurd (let was = first_in order p k y in omega (arith, was.1, was.2, (o.rows was.0 (omega (arith, was.1))).1))
+      | inl y ↦ absurd (let was = first_in order p k y in omega (arith, was.1, was.2, (o.each was.0 (omega (arith, was.1))).1))
       | inr z ↦ z
     ]
 

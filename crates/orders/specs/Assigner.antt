@@ -3,7 +3,7 @@ use Rattle.std.specs.Prelude.{◌≡◌, ℕ, zero, suc, ◌+◌, ◌<◌, ◌�
 use Rattle.table.specs.declared.row.Row.{Row}
 use Rattle.table.specs.Asking.{Asks}
 use Rattle.table.specs.Places.{nth, put}
-use Rattle.bounds.specs.Questions.{In, NoMore}
+use Rattle.bounds.specs.Questions.{Meaning, question, In, NoMore}
 use Rattle.bounds.specs.Orders.{task_at, first}
 use Rattle.bounds.specs.Responses.{least_from}
 use Rattle.orders.specs.declared.range.Range.{Range}
@@ -19,10 +19,10 @@ unfoldable pub full : ℕ → List Bool
 full zero = replicate 32 false
 full (suc n) = slice_set (full n) n true
 
-module _ {T : Type 0} (answer : T → List Row → ℕ → List Bool → List ℕ → Option ℕ) (t : T) (rows : List Row) (r : Range) where
+module _ (meaning : Meaning) (rows : List Row) (r : Range) where
   -- an unplaced task passes at the lowest level left: its answer, with all other unplaced tasks above it, is at most its high
   abbrev pub candidate : List Bool → ℕ → Bool
-  candidate left k = nth left k false && at_most (answer t rows k (put left k false) r.lows) (high r k)
+  candidate left k = nth left k false && at_most (meaning (question rows k (put left k false) r.lows)) (high r k)
 
   -- l levels filled with unplaced tasks, from the lowest up, above the tasks that are placed
   unfoldable pub fill : ℕ → List Bool → List ℕ → Option (List ℕ)
@@ -41,11 +41,11 @@ module _ {T : Type 0} (answer : T → List Row → ℕ → List Bool → List �
 
   -- it finds an order exactly when the range is open, and what it finds lists every row once and passes
   abbrev pub FindsIfOpen : Option (List ℕ) → Type 0
-  FindsIfOpen found = Within rows r → MatchOption found (Closed answer t rows r) (λ tasks. Admits answer t rows r (take (length rows) tasks))
+  FindsIfOpen found = Within rows r → MatchOption found (Closed meaning rows r) (λ tasks. Admits meaning rows r (take (length rows) tasks))
 
   -- on each level of an order no lower-numbered unplaced task passes: when the task with p tasks above it is placed, the unplaced ones are the first p + 1 of the order
   abbrev pub LowestNumbered : List ℕ → Type 0
-  LowestNumbered order = (p : ℕ) → p < length rows → (k : ℕ) → k < task_at order p → In (first order (p + 1)) k → NoMore (answer t rows k (put (first order (p + 1)) k false) r.lows) (Some (high r k)) → ⊥
+  LowestNumbered order = (p : ℕ) → p < length rows → (k : ℕ) → k < task_at order p → In (first order (p + 1)) k → NoMore (meaning (question rows k (put (first order (p + 1)) k false) r.lows)) (Some (high r k)) → ⊥
 
   -- each level of an order that the assigner gives has the lowest-numbered unplaced task that passes there
   abbrev pub FillsLowest : Option (List ℕ) → Type 0

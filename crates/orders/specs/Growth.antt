@@ -7,6 +7,7 @@ use Rattle.orders.specs.declared.range.Range.{Range}
 use Rattle.orders.specs.declared.end.End.{End}
 use Rattle.orders.specs.declared.end.End.TheVariants.{Low, High}
 use Rattle.orders.specs.Ranges.{low, high, Within, Contains, Wider, Open, Closed}
+use Rattle.bounds.specs.Questions.{Meaning}
 
 -- the range with another low of row k
 abbrev pub with_low : Range → ℕ → ℕ → Range
@@ -26,22 +27,22 @@ abbrev pub reach : End → List Row → Range → ℕ → ℕ
 reach Low rows r k = low r k - (row rows k).wcet
 reach High rows r k = (row rows k).deadline - high r k
 
-module _ {T : Type 0} (answer : T → List Row → ℕ → List Bool → List ℕ → Option ℕ) (t : T) (rows : List Row) where
+module _ (meaning : Meaning) (rows : List Row) where
   -- row k's low becomes the least value, at least C, that leaves the range closed
   pub record LowGrown (r : Range) (k : ℕ) (q : Range) : Type 0 where
     pub value : ℕ
     pub is : q ≡ with_low r k value
     pub least : (row rows k).wcet ≤ value
-    pub closed : Closed answer t rows q
-    pub below : (v : ℕ) → (row rows k).wcet ≤ v → v < value → Closed answer t rows (with_low r k v) → ⊥
+    pub closed : Closed meaning rows q
+    pub below : (v : ℕ) → (row rows k).wcet ≤ v → v < value → Closed meaning rows (with_low r k v) → ⊥
 
   -- row k's high becomes the greatest value, at most D, that leaves the range closed
   pub record HighGrown (r : Range) (k : ℕ) (q : Range) : Type 0 where
     pub value : ℕ
     pub is : q ≡ with_high r k value
     pub greatest : value ≤ (row rows k).deadline
-    pub closed : Closed answer t rows q
-    pub above : (v : ℕ) → value < v → v ≤ (row rows k).deadline → Closed answer t rows (with_high r k v) → ⊥
+    pub closed : Closed meaning rows q
+    pub above : (v : ℕ) → value < v → v ≤ (row rows k).deadline → Closed meaning rows (with_high r k v) → ⊥
 
   -- an end of row k is grown: its low, or its high
   abbrev pub EndGrown : End → Range → ℕ → Range → Type 0
@@ -55,17 +56,17 @@ module _ {T : Type 0} (answer : T → List Row → ℕ → List Bool → List �
 
   -- growing a closed range of the rows
   abbrev pub Grown : Range → Range → Type 0
-  Grown r q = Within rows r → Closed answer t rows r → GrownTo r (length rows) q
+  Grown r q = Within rows r → Closed meaning rows r → GrownTo r (length rows) q
 
   -- what is open, or no range, is given back as it is
   abbrev pub GivenBack : Range → Range → Type 0
-  GivenBack r q = (Open answer t rows r → q ≡ r) × ((Within rows r → ⊥) → q ≡ r)
+  GivenBack r q = (Open meaning rows r → q ≡ r) × ((Within rows r → ⊥) → q ≡ r)
 
   -- a range that is barred: it is closed, and every wider range is open
   pub record Barred (r : Range) : Type 0 where
     pub within : Within rows r
-    pub closed : Closed answer t rows r
-    pub wider : (w : Range) → Within rows w → Wider rows w r → Open answer t rows w
+    pub closed : Closed meaning rows r
+    pub wider : (w : Range) → Within rows w → Wider rows w r → Open meaning rows w
 
   -- the second range contains the first, and is barred
   abbrev pub Maximal : Range → Range → Type 0
@@ -73,8 +74,8 @@ module _ {T : Type 0} (answer : T → List Row → ℕ → List Bool → List �
 
   -- growing a closed range of the rows: the grown range is maximal
   abbrev pub GrownMaximal : Range → Range → Type 0
-  GrownMaximal r q = Within rows r → Closed answer t rows r → Maximal r q
+  GrownMaximal r q = Within rows r → Closed meaning rows r → Maximal r q
 
   -- narrowing keeps a range closed
   abbrev pub Narrowing : Type 0
-  Narrowing = (w r : Range) → Within rows w → Within rows r → Contains rows w r → Closed answer t rows w → Closed answer t rows r
+  Narrowing = (w r : Range) → Within rows w → Within rows r → Contains rows w r → Closed meaning rows w → Closed meaning rows r

@@ -5,6 +5,7 @@ use Rattle.table.specs.Places.{nth}
 use Rattle.table.specs.Rows.{row, Names}
 use Rattle.bounds.specs.Orders.{Order, padded, PassesBy}
 use Rattle.orders.specs.declared.range.Range.{Range}
+use Rattle.bounds.specs.Questions.{Meaning}
 
 -- row k's low
 abbrev pub low : Range → ℕ → ℕ
@@ -34,14 +35,14 @@ as_range estimates = record { lows = padded estimates; highs = padded estimates 
 abbrev pub LiesIn : List Row → List ℕ → Range → Type 0
 LiesIn rows estimates r = Contains rows r (as_range estimates)
 
-module _ {T : Type 0} (answer : T → List Row → ℕ → List Bool → List ℕ → Option ℕ) (t : T) (rows : List Row) where
+module _ (meaning : Meaning) (rows : List Row) where
   -- an order passes a range: each task's answer, with the lows as estimates, is at most its high
   abbrev pub Passes : Range → List ℕ → Type 0
-  Passes r order = PassesBy answer t rows r.lows r.highs order
+  Passes r order = PassesBy meaning rows r.lows r.highs order
 
   -- a range admits the orders that pass it
   abbrev pub Admits : Range → List ℕ → Type 0
-  Admits r order = Order (length rows) order × Passes r order
+  Admits r order = Order rows order × Passes r order
 
   -- a range is open if it admits an order
   abbrev pub Open : Range → Type 0

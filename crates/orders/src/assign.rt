@@ -3,19 +3,18 @@ ghost use Rattle.std.specs.Prelude.{◌≡◌, ℕ, ◌<◌, ◌≤◌, ◌↔�
 ghost use Rattle.table.specs.Places.{put};
 ghost use Rattle.table.specs.Rows.{view};
 ghost use Rattle.bounds.specs.Orders.{task_at};
+ghost use Rattle.bounds.specs.Questions.{question};
 ghost use Rattle.orders.specs.Assigner.{assigned, candidate, full, Assigns, FindsIfOpen, FillsLowest};
 ghost use Rattle.orders.specs.Ranges.{Within};
 ghost use Rattle.orders.specs.Relations.{Relations};
 
 use crate::range::Range;
-use bounds::question::Question;
-use bounds::test::Test;
+use bounds::{Question, Test};
 use std::array;
-use table::row::Row;
-use table::rows::Table;
+use table::{Row, Table};
 
 /// Whether this is a range of the table.
-pub fn is_range(table: &Table<Row>, range: &Range) -> bool
+pub fn is_range(table: &Table, range: &Range) -> bool
     ensures { IsTrue result ↔ Within (view table.now) range.now }
 {
     let ends = range.lows.iter().zip(&range.highs);
@@ -37,7 +36,7 @@ fn all_tasks(rows: usize) -> [bool; 32]
 #[derive(Drop)]
 struct Assigner<'a, T> {
     test: &'a T,
-    table: &'a Table<Row>,
+    table: &'a Table,
     range: &'a Range,
 }
 
@@ -45,7 +44,8 @@ impl<T: Test> Assigner<'_, T> {
     // A task's answer below all the other unplaced tasks.
     fn answer(&self, left: &[bool; 32], k: usize) -> Option<u32>
         requires { (1 ≤ k) × (k ≤ 32) }
-        ensures { result ≡ T.answer self.now.test.now (view self.now.table.now) k (put left.now k false) self.now.range.now.lows }
+        ensures { let rows = view self.now.table.now in
+            result ≡ T.answer self.now.test.now (question rows k (put left.now k false) self.now.range.now.lows) }
     {
         let mut above = *left;
         above[k - 1] = false;
@@ -58,11 +58,11 @@ impl<T: Test> Assigner<'_, T> {
         self.test.ask(&question)
     }
 
-    // Whether an unplaced task passes below all the others. A type for a number from 1 to 32 would be no plainer.
+    // Whether an unplaced task passes below all the others.
     fn passes(&self, left: &[bool; 32], k: usize) -> bool
         requires { (1 ≤ k) × (k ≤ 32) }
         ensures { let rows = view self.now.table.now in
-            result ≡ candidate T.answer self.now.test.now rows self.now.range.now left.now k }
+            result ≡ candidate (T.answer self.now.test.now) rows self.now.range.now left.now k }
     {
         if !left[k - 1] {
             return false;
@@ -77,8 +77,8 @@ impl<T: Test> Assigner<'_, T> {
     fn fill_levels(&self, left: &mut [bool; 32]) -> Option<[usize; 32]>
         requires { left.old ≡ full (length (view self.now.table.now)) }
         ensures { let rows = view self.now.table.now in
-            MatchOption result (assigned T.answer self.now.test.now rows self.now.range.now ≡ None)
-            (λ tasks. (assigned T.answer self.now.test.now rows self.now.range.now ≡ Some (take (length rows) tasks))
+            MatchOption result (assigned (T.answer self.now.test.now) rows self.now.range.now ≡ None)
+            (λ tasks. (assigned (T.answer self.now.test.now) rows self.now.range.now ≡ Some (take (length rows) tasks))
             × ((p : ℕ) → length rows ≤ p → task_at tasks p ≡ 0)) }
     {
         let rows = self.table.len();
@@ -110,7 +110,7 @@ impl<T: Test> Assigner<'_, T> {
 // lower levels are filled by the other tasks as far as they pass.
 pub(crate) fn high_wanted<T: Test>(
     test: &T,
-    table: &Table<Row>,
+    table: &Table,
     range: &Range,
     place: usize,
 ) -> Option<u32>
@@ -130,14 +130,13 @@ pub(crate) fn high_wanted<T: Test>(
     assigner.answer(&left, place + 1)
 }
 
-// Test and table come apart here, in `settle`, `grow`, `analyse` and `check`: a caller would make a struct for one call.
 /// An order that passes the range, the highest task first, if there is one. Levels are filled from
 /// the lowest up, each by the lowest-numbered task left that passes there.
-pub fn assign<T: Test>(test: &T, table: &Table<Row>, range: &Range) -> Option<[usize; 32]>
-    ensures rule { Assigns T.answer test.now (view table.now) range.now result }
-    ensures decides { FindsIfOpen T.answer test.now (view table.now) range.now result }
-    ensures lowest { FillsLowest T.answer test.now (view table.now) range.now result }
-    ensures relations { Relations T.answer test.now (view table.now) }
+pub fn assign<T: Test>(test: &T, table: &Table, range: &Range) -> Option<[usize; 32]>
+    ensures rule { Assigns (T.answer test.now) (view table.now) range.now result }
+    ensures decides { FindsIfOpen (T.answer test.now) (view table.now) range.now result }
+    ensures lowest { FillsLowest (T.answer test.now) (view table.now) range.now result }
+    ensures relations { Relations (T.answer test.now) (view table.now) }
 {
     if !is_range(table, range) {
         return None;

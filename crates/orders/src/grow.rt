@@ -5,18 +5,17 @@ ghost use Rattle.orders.specs.Growth.{Grown, GivenBack, GrownMaximal, Narrowing}
 use crate::range::Range;
 use crate::settle::settle;
 use crate::settled::Settled;
-use bounds::test::Test;
-use table::row::Row;
-use table::rows::Table;
+use bounds::Test;
+use table::{Row, Table};
 
 /// The grown form of a closed range: row by row the low goes down to the least value, at least the
 /// wcet, that leaves the range closed, and then the high up to the greatest, at most the deadline.
 /// What is open, or no range of the table, is given back as it is.
-pub fn grow<T: Test>(test: &T, table: &Table<Row>, range: &Range) -> Range
-    ensures rule { Grown T.answer test.now (view table.now) range.now result }
-    ensures back { GivenBack T.answer test.now (view table.now) range.now result }
-    ensures maximal { GrownMaximal T.answer test.now (view table.now) range.now result }
-    ensures narrowing { Narrowing T.answer test.now (view table.now) }
+pub fn grow<T: Test>(test: &T, table: &Table, range: &Range) -> Range
+    ensures rule { Grown (T.answer test.now) (view table.now) range.now result }
+    ensures back { GivenBack (T.answer test.now) (view table.now) range.now result }
+    ensures maximal { GrownMaximal (T.answer test.now) (view table.now) range.now result }
+    ensures narrowing { Narrowing (T.answer test.now) (view table.now) }
 {
     match settle(test, table, range) {
         Settled::Order(_) => *range,

@@ -7,3 +7,6 @@ pub mod grow;
 pub mod range;
 pub mod settle;
 pub mod settled;
+
+pub use range::Range;
+pub use settled::Settled;

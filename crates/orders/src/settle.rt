@@ -7,19 +7,18 @@ ghost use Rattle.orders.specs.Settling.{order_of, grown_of};
 use crate::closed::ClosedRange;
 use crate::range::Range;
 use crate::settled::Settled;
-use bounds::test::Test;
-use table::row::Row;
-use table::rows::Table;
+use bounds::Test;
+use table::{Row, Table};
 
 /// The order that `assign` gives, if it gives one, or else the range that `grow` gives. The assigner is asked about the range once.
-pub fn settle<T: Test>(test: &T, table: &Table<Row>, range: &Range) -> Settled
-    ensures order { Assigns T.answer test.now (view table.now) range.now (order_of result) }
-    ensures decides { FindsIfOpen T.answer test.now (view table.now) range.now (order_of result) }
-    ensures lowest { FillsLowest T.answer test.now (view table.now) range.now (order_of result) }
-    ensures grown { Grown T.answer test.now (view table.now) range.now (grown_of range.now result) }
-    ensures back { GivenBack T.answer test.now (view table.now) range.now (grown_of range.now result) }
-    ensures maximal { GrownMaximal T.answer test.now (view table.now) range.now (grown_of range.now result) }
-    ensures narrowing { Narrowing T.answer test.now (view table.now) }
+pub fn settle<T: Test>(test: &T, table: &Table, range: &Range) -> Settled
+    ensures order { Assigns (T.answer test.now) (view table.now) range.now (order_of result) }
+    ensures decides { FindsIfOpen (T.answer test.now) (view table.now) range.now (order_of result) }
+    ensures lowest { FillsLowest (T.answer test.now) (view table.now) range.now (order_of result) }
+    ensures grown { Grown (T.answer test.now) (view table.now) range.now (grown_of range.now result) }
+    ensures back { GivenBack (T.answer test.now) (view table.now) range.now (grown_of range.now result) }
+    ensures maximal { GrownMaximal (T.answer test.now) (view table.now) range.now (grown_of range.now result) }
+    ensures narrowing { Narrowing (T.answer test.now) (view table.now) }
 {
     match ClosedRange::new(test, table, *range) {
         Ok(closed) => Settled::Grown(closed.grow()),

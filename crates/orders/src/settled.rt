@@ -1,3 +1,4 @@
+// What settling a range gives.
 use crate::range::Range;
 
 /// What is made of a range.

@@ -4,9 +4,8 @@ use Rattle.std.proofs.lemmas.Bool.{false≢true}
 use Rattle.std.proofs.lemmas.Bool.Decides.{Decides-at}
 use Rattle.std.proofs.lemmas.Iterator.{YieldsList-from_range}
 use Rattle.std.proofs.lemmas.Iterator.Search.{all_from_yields_List}
-use Rattle.table.specs.Rows.{view}
 use Rattle.table.proofs.Placed.{nth_at}
-use Rattle.bounds.specs.Questions.{sound_atb}
+use Rattle.bounds.specs.Questions.{asked, sound_atb}
 use Rattle.bounds.proofs.Sounding.{all_places, sound_by_places, sound_decides}
 use Rattle.bounds.proofs.question.Question.is_sound.Goals as goal
 use Rattle.bounds.proofs.question.Question.is_sound.Goals.{then-task-eq0-via-then-task-eq0, then-task-eq0-via-else-task-eq0+then-task-len, then-task-eq0-via-else-task-eq0+else-task-len+then-self-task}
@@ -23,16 +22,14 @@ returns-then-task-eq0-clause-sound c = (
 
 pub returns-clause-sound : goal.returns-clause-sound
 returns-clause-sound c =
-    let q = c.args.self.now in
-    let rows = view q.table.now in
-    let sound = sound_atb rows q.above.now q.estimates.now in
+    let q = asked c.args.self.now in
     Decides-at _ _
     (
-    all_from_yields_List (λ place. sound (place + 1)) _ _ c.all.result c.all.ensures.ran (YieldsList-from_range 0 32 32 refl refl) (λ x b q k. search (rules, tests))
-    ∙ all_places sound 32
-    ∙ sound_by_places rows q.task q.above.now q.estimates.now (omega arith) (omega arith, omega arith) c.if-self-task.false
+    all_from_yields_List (λ place. sound_atb q (place + 1)) _ _ c.all.result c.all.ensures.ran (YieldsList-from_range 0 32 32 refl refl) (λ x b k called. search (rules, tests))
+    ∙ all_places (sound_atb q) 32
+    ∙ sound_by_places q (omega arith) (omega arith, omega arith) c.if-self-task.false
     )
-    (sound_decides rows q.task q.above.now q.estimates.now)
+    (sound_decides q)
 
 pub returns-then-task-eq0-clause-computed : goal.returns-then-task-eq0-clause-computed
 returns-then-task-eq0-clause-computed c = sound_decides

@@ -18,6 +18,6 @@ loop-place-preserved g c =
     let after = c.grow_end-grown.result.range in
     let test = c.grow_end.ensures.test ∙ c.loop-place.invariant.0 in
     let table = c.grow_end.ensures.table ∙ c.loop-place.invariant.1 in
-    let low : LowGrown g.T.Test.answer s.test.now rows before k lower = rw (c.loop-place.invariant.0, c.loop-place.invariant.1) at c.grow_end.ensures.grown in
-    let high : HighGrown g.T.Test.answer s.test.now rows lower k after = rw (test, table) at c.grow_end-grown.ensures.grown in
-    (c.grow_end-grown.ensures.test ∙ test, c.grow_end-grown.ensures.table ∙ table, grown_next g.met.T.Test.kept s.test.now rows (few_rows s.table.now) s.range c.loop-place.place before lower after c.loop-place.invariant.2 low high)
+    let low : LowGrown (g.T.Test.answer s.test.now) rows before k lower = rw (c.loop-place.invariant.0, c.loop-place.invariant.1) at c.grow_end.ensures.grown in
+    let high : HighGrown (g.T.Test.answer s.test.now) rows lower k after = rw (test, table) at c.grow_end-grown.ensures.grown in
+    (c.grow_end-grown.ensures.test ∙ test, c.grow_end-grown.ensures.table ∙ table, grown_next (g.met.T.Test.kept s.test.now) rows (few_rows s.table.now) s.range c.loop-place.place before lower after c.loop-place.invariant.2 low high)

@@ -8,4 +8,4 @@ abbrev pub invariant-loop-place : goal.invariant-loop-place
 invariant-loop-place g l =
     let s = l.fn.self in
     (l.grown.test.now ≡ s.test.now) × (l.grown.table.now ≡ s.table.now)
-    × GrownTo g.T.Test.answer s.test.now (view s.table.now) s.range l.place l.grown.range
+    × GrownTo (g.T.Test.answer s.test.now) (view s.table.now) s.range l.place l.grown.range

@@ -1,6 +1,0 @@
-use Rattle.std.proofs.Common.{◌≡◌, length}
-use Rattle.bounds.specs.Loads.{sum_over, deadline_part}
-use Rattle.bounds.proofs.da.ask.load_above.Given as goal
-
-abbrev pub invariant-loop-row : goal.invariant-loop-row
-invariant-loop-row l = l.sum ≡ sum_over l.q.above.now (deadline_part l.q.rows.now l.q.task) (length l.yielded)

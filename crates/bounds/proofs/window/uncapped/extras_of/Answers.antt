@@ -1,8 +1,0 @@
-use Rattle.std.proofs.Common.{◌-◌, min, get_or, rules}
-use Rattle.table.proofs.Placed.{nth_next}
-use Rattle.bounds.proofs.Filled.{filled}
-use Rattle.bounds.proofs.window.uncapped.extras_of.Goals as goal
-
-pub returns : goal.returns
-returns c =
-    filled (λ place. min (get_or c.args.carried.now place 0) c.args.cap - min (get_or c.args.plain.now place 0) c.args.cap) _ c.from_fn.result (λ j y e called. search rules) _ (λ j. simp nth_next) c.from_fn.ensures.items
