@@ -2,27 +2,32 @@
 use Rattle.std.proofs.Common.{◌≡◌, ℕ, ◌/◌, Bool, List, length, Ok, Err, Result, Option, subst, arith}
 use Rattle.table.specs.declared.row.Row.{Row}
 use Rattle.table.specs.declared.fault.Fault.{Fault}
-use Rattle.bounds.specs.Questions.{Laws}
+use Rattle.bounds.specs.Questions.{Meaning, Laws}
+use Rattle.study.specs.declared.study.Study.{Study}
+use Rattle.study.specs.declared.edit.Edit.{Edit}
 use Rattle.study.specs.declared.call.Call.{Call}
 use Rattle.study.specs.declared.call.Call.TheVariants as call
 use Rattle.study.specs.Moments.{Moment, moment}
 use Rattle.study.specs.Begins.{Begins}
-use Rattle.study.specs.Histories.{Since, begun, other, Promise, BeginPromise, History, edit, begin, no_begin}
+use Rattle.study.specs.Calls.{EditsBy}
+use Rattle.study.specs.Histories.{Since, begun, other, Promise, StaysPromised, BeginPromise, History, edit, begin, no_begin}
 use Rattle.study.specs.Machine.{Calls, CallPromise}
 use Rattle.study.proofs.Lawful.{law, step_promise}
 use Rattle.study.proofs.Going.{begin_had}
 
-module _ {T : Type 0} (answer : T → List Row → ℕ → List Bool → List ℕ → Option ℕ) (laws : Laws answer) (t : T) where
-  pub begin_promise : (lent after : Moment) (l p : List ℕ) (c : Since) (r : Result (Unit {0}) Fault) → Begins lent r after → History answer t (moment lent.study l p) c → BeginPromise answer t lent after l p c r
+module _ (meaning : Meaning) (laws : Laws meaning) where
+  pub begin_promise : (lent after : Moment) (l p : List ℕ) (c : Since) (r : Result (Unit {0}) Fault) → Begins lent r after → History meaning (moment lent.study l p) c → BeginPromise meaning lent after l p c r
   begin_promise lent after l p c (Ok x) begins h =
       let had = begin_had lent after begins in
       let slots : had.1.0.ledger ≡ length lent.ledger / 64 = omega (arith, had.1.1.0.2) in
-      (subst (λ n. Promise answer t after (begun n)) slots (law answer t laws after (begun had.1.0.ledger) (begin h lent.ledger lent.pending after had.1.0 had.1.1 begins)), tt)
+      (subst (λ n. Promise meaning after (begun n)) slots (law meaning laws after (begun had.1.0.ledger) (begin h lent.ledger lent.pending after had.1.0 had.1.1 begins)), tt)
   begin_promise lent after l p c (Err e) begins h =
-      (tt, law answer t laws (moment after.study l p) (other c) (no_begin h lent.ledger lent.pending after e begins))
+      (tt, law meaning laws (moment after.study l p) (other c) (no_begin h lent.ledger lent.pending after e begins))
 
-  pub call_promise : (asked : Call) (lent after : Moment) (l p : List ℕ) (c : Since) (r : Result (Unit {0}) Fault) → Calls answer t asked lent r after → History answer t (moment lent.study l p) c → CallPromise answer t asked lent after l p c r
-  call_promise (call.Edit e) lent after l p c r edits h =
-      law answer t laws (moment after.study l p) (other c) (edit h e r after.study edits.0)
+  pub edit_promise : (e : Edit) (before after : Study) (r : Result (Unit {0}) Fault) → EditsBy e before r after → (l p : List ℕ) (c : Since) → History meaning (moment before l p) c → StaysPromised meaning after l p c
+  edit_promise e before after r edits l p c h = law meaning laws (moment after l p) (other c) (edit h e r after edits)
+
+  pub call_promise : (asked : Call) (lent after : Moment) (l p : List ℕ) (c : Since) (r : Result (Unit {0}) Fault) → Calls meaning asked lent r after → History meaning (moment lent.study l p) c → CallPromise meaning asked lent after l p c r
+  call_promise (call.Edit e) lent after l p c r edits h = edit_promise e lent.study after.study r edits.0 l p c h
   call_promise call.Begin lent after l p c r begins h = begin_promise lent after l p c r begins h
-  call_promise call.Step lent after l p c r steps h = step_promise answer t laws lent after l p c r steps h
+  call_promise call.Step lent after l p c r steps h = step_promise meaning laws lent after l p c r steps h

@@ -4,7 +4,7 @@ use Rattle.std.proofs.lemmas.Bool.{cases_lt, cases_eq, false≢true}
 use Rattle.table.specs.declared.row.Row.{Row}
 use Rattle.table.specs.declared.fault.Fault.{Fault}
 use Rattle.table.specs.declared.fault.Fault.TheVariants.{Empty, BadSlots}
-use Rattle.bounds.specs.Questions.{Laws}
+use Rattle.bounds.specs.Questions.{Meaning, Laws}
 use Rattle.study.specs.declared.room.Room.{Room}
 use Rattle.study.specs.Counts.{verdicts}
 use Rattle.study.specs.Slots.{HasSlots}
@@ -18,17 +18,17 @@ use Rattle.study.proofs.Lawful.{room_of, KeepsAt, Told, begun_keeps, told_begun,
 abbrev since_at : Room → ℕ → Bool → Since
 since_at room n stepped = record { slots = room.ledger; steps = n; stepped = stepped }
 
-module _ {T : Type 0} (answer : T → List Row → ℕ → List Bool → List ℕ → Option ℕ) (t : T) where
+module _ (meaning : Meaning) where
   -- n accepted steps after the accepted begin: what is kept, and that every history to the beginning leads here
   pub record Going (room : Room) (before m : Moment) : Type 0 where
     pub count : ℕ
     pub stepped : Bool
-    pub leads : Leads answer t room before count m
-    pub at : KeepsAt answer t m
+    pub leads : Leads meaning room before count m
+    pub at : KeepsAt meaning m
     pub told : Told m (since_at room count stepped)
     pub same : count ≡ m.study.steps
     pub alive : (Runs room m) ⊎ ((verdicts m.study.state ≡ 1) × (stepped ≡ true))
-    pub past : (l p : List ℕ) (c : Since) → History answer t (moment before.study l p) c → History answer t m (since_at room count stepped)
+    pub past : (l p : List ℕ) (c : Since) → History meaning (moment before.study l p) c → History meaning m (since_at room count stepped)
 
   pub going_begun : (room : Room) (before after : Moment) → HasRoom room before → Begins before (Ok tt) after → (r : Room) × HasRoom r before × Going r before after
   going_begun room before after has begun =
@@ -39,7 +39,7 @@ module _ {T : Type 0} (answer : T → List Row → ℕ → List Bool → List �
           count = 0;
           stepped = false;
           leads = begins begun;
-          at = begun_keeps answer t on.0 before after on.1 on.2;
+          at = begun_keeps meaning on.0 before after on.1 on.2;
           told = told_begun on.0 after on.0.ledger refl on.2.state on.2.steps;
           same = sym on.2.steps;
           alive = inl on.2.state;
@@ -51,12 +51,12 @@ module _ {T : Type 0} (answer : T → List Row → ℕ → List Bool → List �
   pub going_runs : (room : Room) (before m : Moment) → Going room before m → ((r : Room) × Runs r m) → Runs room m
   going_runs room before m going some = elim going.alive [ inl runs ↦ runs | inr verdict ↦ absurd (omega (arith, verdict.0, ap verdicts some.1)) ]
 
-  module _ (laws : Laws answer) (room : Room) (before m after : Moment) (going : Going room before m) (runs : Runs room m) where
+  module _ (laws : Laws meaning) (room : Room) (before m after : Moment) (going : Going room before m) (runs : Runs room m) where
     -- a step is never refused
-    pub not_refused : (e : Fault) → Steps answer t m (Err e) after → ⊥
-    not_refused e asked = let on = asked.1 (room, runs) in ok≢err e (sym (on.2.1 (ready answer t m going.at on.0 on.1)).0)
+    pub not_refused : (e : Fault) → Steps meaning m (Err e) after → ⊥
+    not_refused e asked = let on = asked.1 (room, runs) in ok≢err e (sym (on.2.1 (ready meaning m going.at on.0 on.1)).0)
 
-    after_step : Stepped answer t room m after → (after.study.steps ≡ m.study.steps + 1) × ((Runs room after) ⊎ (verdicts after.study.state ≡ 1))
+    after_step : Stepped meaning room m after → (after.study.steps ≡ m.study.steps + 1) × ((Runs room after) ⊎ (verdicts after.study.state ≡ 1))
     after_step stepped = elim stepped [
       | none nothing ends ↦ (ends.steps, inr (ap verdicts ends.state))
       | keeps grown some closed grows left leaves ↦ (leaves.steps, inl leaves.state)
@@ -66,17 +66,17 @@ module _ {T : Type 0} (answer : T → List Row → ℕ → List Bool → List �
       | split_stops u some opens closed grows lacks ends ↦ (ends.steps, inr (ap verdicts ends.state))
     ]
 
-    did_step : Steps answer t m (Ok tt) after → Stepped answer t room m after
+    did_step : Steps meaning m (Ok tt) after → Stepped meaning room m after
     did_step took =
-        let on = step_accepted answer t m after (ready answer t m going.at) took in
+        let on = step_accepted meaning m after (ready meaning m going.at) took in
         let room_is : on.0 ≡ room = ap (room_of room) (sym on.1 ∙ runs) in
-        subst (λ r. Stepped answer t r m after) room_is on.2
+        subst (λ r. Stepped meaning r m after) room_is on.2
 
     -- a step counts one more, of at most 4,097
-    pub step_counts : Steps answer t m (Ok tt) after → (after.study.steps ≡ m.study.steps + 1) × (m.study.steps ≤ 4096)
+    pub step_counts : Steps meaning m (Ok tt) after → (after.study.steps ≡ m.study.steps + 1) × (m.study.steps ≤ 4096)
     step_counts took = let few = counted_running m.study room runs in ((after_step (did_step took)).0, omega (arith, few.0, few.1, few.2))
 
-    pub going_stepped : Steps answer t m (Ok tt) after → Going room before after
+    pub going_stepped : Steps meaning m (Ok tt) after → Going room before after
     going_stepped took =
         let did = did_step took in
         let next = after_step did in
@@ -84,8 +84,8 @@ module _ {T : Type 0} (answer : T → List Row → ℕ → List Bool → List �
           count = going.count + 1;
           stepped = true;
           leads = steps going.leads (ap verdicts runs) took;
-          at = stepped_keeps answer t laws room m after going.at runs did;
-          told = told_stepped room m after (since_at room going.count going.stepped) going.told runs answer t did;
+          at = stepped_keeps meaning laws room m after going.at runs did;
+          told = told_stepped room m after (since_at room going.count going.stepped) going.told runs meaning did;
           same = omega (arith, going.same, next.0);
           alive = elim next.1 [ inl on_it ↦ inl on_it | inr verdict ↦ inr (verdict, refl) ];
           past = λ l p c h. step (going.past l p c h) after took;
@@ -96,33 +96,33 @@ module _ {T : Type 0} (answer : T → List Row → ℕ → List Bool → List �
     ended : (verdicts m.study.state ≡ 1) × (going.stepped ≡ true)
     ended = elim going.alive [ inl runs ↦ absurd (over (room, runs)) | inr verdict ↦ verdict ]
 
-    pub searches_ended : 1 ≤ length (rows_of before) → HasRoom room before → Searches answer t before (Ok tt) m
+    pub searches_ended : 1 ≤ length (rows_of before) → HasRoom room before → Searches meaning before (Ok tt) m
     searches_ended some has = (
       λ empty. absurd (empty some),
       λ _. (λ bad. absurd (bad (room, has)), λ _. (room, has, refl, record { count = going.count; leads = going.leads; bounded = going.told.bounded; ends = ended.0 })),
     )
 
-    pub promise_ended : (laws : Laws answer) → HasRoom room before → (l p : List ℕ) (c : Since) → History answer t (moment before.study l p) c → SearchPromise answer t before m l p c (Ok tt)
+    pub promise_ended : (laws : Laws meaning) → HasRoom room before → (l p : List ℕ) (c : Since) → History meaning (moment before.study l p) c → SearchPromise meaning before m l p c (Ok tt)
     promise_ended laws has l p c h =
         let slots : room.ledger ≡ length before.ledger / 64 = omega (arith, has.0.2) in
-        let promise = law answer t laws m (since_at room going.count going.stepped) (going.past l p c h) in (
-          subst (λ n. Promise answer t m (record { slots = n; steps = m.study.steps; stepped = true })) slots
-              (subst (λ n. Promise answer t m (record { slots = room.ledger; steps = n; stepped = true })) going.same
-              (subst (λ b. Promise answer t m (record { slots = room.ledger; steps = going.count; stepped = b })) ended.1 promise)),
+        let promise = law meaning laws m (since_at room going.count going.stepped) (going.past l p c h) in (
+          subst (λ n. Promise meaning m (record { slots = n; steps = m.study.steps; stepped = true })) slots
+              (subst (λ n. Promise meaning m (record { slots = room.ledger; steps = n; stepped = true })) going.same
+              (subst (λ b. Promise meaning m (record { slots = room.ledger; steps = going.count; stepped = b })) ended.1 promise)),
           tt,
         )
 
   -- refused as begin is
-  pub searches_refused : (before after : Moment) (e : Fault) → Begins before (Err e) after → Searches answer t before (Err e) after
+  pub searches_refused : (before after : Moment) (e : Fault) → Begins before (Err e) after → Searches meaning before (Err e) after
   searches_refused before after e refused = (
     refused.0,
     λ some. ((refused.1 some).0, λ q. absurd (ok≢err e (sym ((refused.1 some).1 q).2))),
   )
 
-  pub promise_refused : (laws : Laws answer) (before after : Moment) (e : Fault) → Begins before (Err e) after → (l p : List ℕ) (c : Since) → History answer t (moment before.study l p) c → (r : Result (Unit {0}) Fault) → IsErr r → SearchPromise answer t before after l p c r
+  pub promise_refused : (laws : Laws meaning) (before after : Moment) (e : Fault) → Begins before (Err e) after → (l p : List ℕ) (c : Since) → History meaning (moment before.study l p) c → (r : Result (Unit {0}) Fault) → IsErr r → SearchPromise meaning before after l p c r
   promise_refused laws before after e refused l p c h (Ok x) err = absurd (false≢true err)
   promise_refused laws before after e refused l p c h (Err x) err =
-      (tt, law answer t laws (moment after.study l p) (other c) (no_begin h before.ledger before.pending after e refused))
+      (tt, law meaning laws (moment after.study l p) (other c) (no_begin h before.ledger before.pending after e refused))
 
 -- whether a list has whole slots
 has_slots : (list : List ℕ) → ((n : ℕ) × HasSlots list n) ⊎ (((n : ℕ) × HasSlots list n) → ⊥)

@@ -6,7 +6,7 @@ use Rattle.table.specs.declared.fault.Fault.{Fault}
 use Rattle.table.specs.declared.fault.Fault.TheVariants.{Empty, NotRunning}
 use Rattle.table.specs.Rows.{view}
 use Rattle.table.proofs.View.{few_rows}
-use Rattle.bounds.specs.Questions.{Laws}
+use Rattle.bounds.specs.Questions.{Meaning, Laws}
 use Rattle.bounds.specs.Orders.{Order, Estimates, HasLate}
 use Rattle.study.specs.declared.study.Study.{Study}
 use Rattle.study.specs.declared.edit.Edit.{Edit}
@@ -47,21 +47,21 @@ finding_of d (state.Found finding) = finding
 finding_of d state.None = d
 finding_of d state.Stopped = d
 
-module _ {T : Type 0} (answer : T → List Row → ℕ → List Bool → List ℕ → Option ℕ) (t : T) where
+module _ (meaning : Meaning) where
   -- what a moment's verdict and ledger say, on these rows, in this state, with n ledger slots counted
   pub record Stands (rows : List Row) (s : State) (n : ℕ) (l : List ℕ) : Type 0 where
-    pub found : (f : Finding) → s ≡ state.Found f → Shown answer t rows f
-    pub none : s ≡ state.None → (order : List ℕ) → Order (length rows) order → HasLate answer t rows order
-    pub barred : AllBarred answer t rows n l
+    pub found : (f : Finding) → s ≡ state.Found f → Shown meaning rows f
+    pub none : s ≡ state.None → (order : List ℕ) → Order rows order → HasLate meaning rows order
+    pub barred : AllBarred meaning rows n l
     pub covered : s ≡ state.None → (es : List ℕ) → Estimates rows es → Holding rows l n es
 
   -- and, if a search is running, what it keeps
   pub record Keeps (rows : List Row) (s : State) (n m : ℕ) (l p : List ℕ) : Type 0 where
     pub stands : Stands rows s n l
-    pub runs : (room : Room) → s ≡ state.Running room → Sought answer t rows room n m l p
+    pub runs : (room : Room) → s ≡ state.Running room → Sought meaning rows room n m l p
 
   -- in a state that is no verdict on orders, only the ledger speaks
-  quiet : (rows : List Row) (s : State) (n : ℕ) (l : List ℕ) → ((f : Finding) → s ≡ state.Found f → ⊥) → (s ≡ state.None → ⊥) → AllBarred answer t rows n l → Stands rows s n l
+  quiet : (rows : List Row) (s : State) (n : ℕ) (l : List ℕ) → ((f : Finding) → s ≡ state.Found f → ⊥) → (s ≡ state.None → ⊥) → AllBarred meaning rows n l → Stands rows s n l
   quiet rows s n l not_found not_none barred = record {
     found = λ f is. absurd (not_found f is);
     none = λ is. absurd (not_none is);
@@ -69,13 +69,13 @@ module _ {T : Type 0} (answer : T → List Row → ℕ → List Bool → List �
     covered = λ is. absurd (not_none is);
   }
 
-  running : (rows : List Row) (room : Room) (n m : ℕ) (l p : List ℕ) → Sought answer t rows room n m l p → Keeps rows (state.Running room) n m l p
+  running : (rows : List Row) (room : Room) (n m : ℕ) (l p : List ℕ) → Sought meaning rows room n m l p → Keeps rows (state.Running room) n m l p
   running rows room n m l p sought = record {
     stands = quiet rows (state.Running room) n l (λ f is. absurd (omega (arith, ap kind is))) (λ is. absurd (omega (arith, ap kind is))) sought.barred;
-    runs = λ r is. subst (λ x. Sought answer t rows x n m l p) (ap (room_of room) is) sought;
+    runs = λ r is. subst (λ x. Sought meaning rows x n m l p) (ap (room_of room) is) sought;
   }
 
-  stopped : (rows : List Row) (n m : ℕ) (l p : List ℕ) → AllBarred answer t rows n l → Keeps rows state.Stopped n m l p
+  stopped : (rows : List Row) (n m : ℕ) (l p : List ℕ) → AllBarred meaning rows n l → Keeps rows state.Stopped n m l p
   stopped rows n m l p barred = record {
     stands = quiet rows state.Stopped n l (λ f is. absurd (omega (arith, ap kind is))) (λ is. absurd (omega (arith, ap kind is))) barred;
     runs = λ r is. absurd (omega (arith, ap kind is));
@@ -87,16 +87,16 @@ module _ {T : Type 0} (answer : T → List Row → ℕ → List Bool → List �
     runs = λ r is. absurd (omega (arith, ap kind is));
   }
 
-  ended_none : (rows : List Row) (n m : ℕ) (l p : List ℕ) → AllBarred answer t rows n l → ((es : List ℕ) → Estimates rows es → Holding rows l n es) → ((order : List ℕ) → Order (length rows) order → HasLate answer t rows order) → Keeps rows state.None n m l p
+  ended_none : (rows : List Row) (n m : ℕ) (l p : List ℕ) → AllBarred meaning rows n l → ((es : List ℕ) → Estimates rows es → Holding rows l n es) → ((order : List ℕ) → Order rows order → HasLate meaning rows order) → Keeps rows state.None n m l p
   ended_none rows n m l p barred cover late = record {
     stands = record { found = λ f is. absurd (omega (arith, ap kind is)); none = λ is. late; barred = barred; covered = λ is. cover };
     runs = λ r is. absurd (omega (arith, ap kind is));
   }
 
-  ended_found : (rows : List Row) (f : Finding) (n m : ℕ) (l p : List ℕ) → AllBarred answer t rows n l → Shown answer t rows f → Keeps rows (state.Found f) n m l p
+  ended_found : (rows : List Row) (f : Finding) (n m : ℕ) (l p : List ℕ) → AllBarred meaning rows n l → Shown meaning rows f → Keeps rows (state.Found f) n m l p
   ended_found rows f n m l p barred shows = record {
     stands = record {
-      found = λ g is. subst (Shown answer t rows) (ap (finding_of f) is) shows;
+      found = λ g is. subst (Shown meaning rows) (ap (finding_of f) is) shows;
       none = λ is. absurd (omega (arith, ap kind is));
       barred = barred;
       covered = λ is. absurd (omega (arith, ap kind is));
@@ -128,10 +128,10 @@ module _ {T : Type 0} (answer : T → List Row → ℕ → List Bool → List �
   begun_keeps room before after has begins =
       let few = few_rows before.study.table in
       keeps_at after (rows_of before) (state.Running room) 0 1 _ _ (ap view begins.table) begins.state begins.ledger begins.pending begins.ledger_list begins.pending_list
-      (running (rows_of before) room 0 1 _ _ (sought_begun (rows_of before) few answer t room before.ledger before.pending has.1.0 has.0.2 has.1.2))
+      (running (rows_of before) room 0 1 _ _ (sought_begun (rows_of before) few meaning room before.ledger before.pending has.1.0 has.0.2 has.1.2))
 
-  module _ (laws : Laws answer) where
-    pub stepped_keeps : (room : Room) (before after : Moment) → KeepsAt before → Runs room before → Stepped answer t room before after → KeepsAt after
+  module _ (laws : Laws meaning) where
+    pub stepped_keeps : (room : Room) (before after : Moment) → KeepsAt before → Runs room before → Stepped meaning room before after → KeepsAt after
     stepped_keeps room before after at runs stepped =
         let rows = rows_of before in
         let n = before.study.ledger in
@@ -143,13 +143,13 @@ module _ {T : Type 0} (answer : T → List Row → ℕ → List Bool → List �
         elim stepped [
           | none nothing ends ↦
               let cover : (es : List ℕ) → Estimates rows es → Holding rows l n es = λ es est. elim (sought.cover es est) [ inl kept ↦ kept | inr waits ↦ absurd (omega (arith, waits.1, waits.2, nothing)) ] in
-              leaves_keeps before after _ _ _ _ _ ends (ended_none rows n m l p sought.barred cover (every_late laws t rows few n l sought.barred cover))
-          | keeps grown some closed grows left leaves ↦ leaves_keeps before after _ _ _ _ _ leaves (running rows room _ _ _ _ (sought_kept laws t rows few room n m l p sought some left grown closed grows))
+              leaves_keeps before after _ _ _ _ _ ends (ended_none rows n m l p sought.barred cover (every_late laws rows few n l sought.barred cover))
+          | keeps grown some closed grows left leaves ↦ leaves_keeps before after _ _ _ _ _ leaves (running rows room _ _ _ _ (sought_kept laws rows few room n m l p sought some left grown closed grows))
           | keep_stops some closed lacks ends ↦ leaves_keeps before after _ _ _ _ _ ends (stopped rows n m l p sought.barred)
           | finds f some opens lows found ends ↦
               let whole = slot_full p m some (omega (arith, sought.long_pending, sought.few_waiting)) in
-              leaves_keeps before after _ _ _ _ _ ends (ended_found rows f n m l p sought.barred (finding_shows laws t rows few _ f whole (sought.waiting m some (omega arith)) found))
-          | splits u some opens closed grows left enough leaves ↦ leaves_keeps before after _ _ _ _ _ leaves (running rows room _ _ _ _ (sought_split laws t rows few room n m l p sought some left u closed grows enough))
+              leaves_keeps before after _ _ _ _ _ ends (ended_found rows f n m l p sought.barred (finding_shows laws rows few _ f whole (sought.waiting m some (omega arith)) found))
+          | splits u some opens closed grows left enough leaves ↦ leaves_keeps before after _ _ _ _ _ leaves (running rows room _ _ _ _ (sought_split laws rows few room n m l p sought some left u closed grows enough))
           | split_stops u some opens closed grows lacks ends ↦ leaves_keeps before after _ _ _ _ _ ends (stopped rows n m l p sought.barred)
         ]
 
@@ -209,8 +209,8 @@ module _ (room : Room) (before after : Moment) (c : Since) (told : Told before c
         runs = λ r runs'. (was.0 ∙ ap (λ (x : Room). x.ledger) (ap (room_of room) (sym is ∙ runs')), omega (arith, was.1, steps));
       }
 
-  pub told_stepped : {T : Type 0} (answer : T → List Row → ℕ → List Bool → List ℕ → Option ℕ) (t : T) → Stepped answer t room before after → Told after (one_more c)
-  told_stepped answer t stepped = elim stepped [
+  pub told_stepped : (meaning : Meaning) → Stepped meaning room before after → Told after (one_more c)
+  told_stepped meaning stepped = elim stepped [
     | none nothing ends ↦ told_ended state.None ends.state refl
     | keeps grown some closed grows left leaves ↦ told_running leaves.state leaves.steps
     | keep_stops some closed lacks ends ↦ told_ended state.Stopped ends.state refl
@@ -224,8 +224,8 @@ pub ok≢err : (e : Fault) → ◌≡◌ {A = Result (Unit {0}) Fault} (Ok tt) (
 ok≢err e is = false≢true (sym (ap is_ok is))
 
 edit_parts : (e : Edit) (s : Study) (r : Result (Unit {0}) Fault) (after : Study) → EditsBy e s r after → IfOk r (λ _. IsDraft after) × IfErr r (λ _. after ≡ s)
-edit_parts (Add wcet period deadline) s r after edits = (edits.1, edits.2)
-edit_parts (Alter k wcet period deadline) s r after edits = (edits.1, edits.2)
+edit_parts (Add n) s r after edits = (edits.1, edits.2)
+edit_parts (Alter k n) s r after edits = (edits.1, edits.2)
 edit_parts (Remove k) s r after edits = (edits.1, edits.2)
 
 -- an accepted begin had a row, and its search has begun
@@ -249,54 +249,54 @@ running_or_not (state.Found f) = inr (λ q. omega (arith, ap kind q.1))
 running_or_not state.None = inr (λ q. omega (arith, ap kind q.1))
 running_or_not state.Stopped = inr (λ q. omega (arith, ap kind q.1))
 
-module _ {T : Type 0} (answer : T → List Row → ℕ → List Bool → List ℕ → Option ℕ) (t : T) where
+module _ (meaning : Meaning) where
   -- an accepted step does a step's work
-  pub step_accepted : (before after : Moment) → ((room : Room) → Runs room before → AsLeft room before) → Steps answer t before (Ok tt) after → (room : Room) × Runs room before × Stepped answer t room before after
+  pub step_accepted : (before after : Moment) → ((room : Room) → Runs room before → AsLeft room before) → Steps meaning before (Ok tt) after → (room : Room) × Runs room before × Stepped meaning room before after
   step_accepted before after ready steps = elim (running_or_not before.study.state) [
     | inl runs ↦ let on = steps.1 runs in (on.0, on.1, (on.2.1 (ready on.0 on.1)).1)
     | inr other ↦ absurd (ok≢err NotRunning (steps.0 other).0)
   ]
 
   -- a refused step alters nothing
-  pub step_refused : (before after : Moment) (e : Fault) → Steps answer t before (Err e) after → after ≡ before
+  pub step_refused : (before after : Moment) (e : Fault) → Steps meaning before (Err e) after → after ≡ before
   step_refused before after e steps = elim (running_or_not before.study.state) [
     | inl runs ↦ let on = steps.1 runs in (on.2.0 (λ left. ok≢err e (sym (on.2.1 left).0))).1
     | inr other ↦ (steps.0 other).1
   ]
 
   -- while a search is running, the lists are as it left them
-  pub ready : (m : Moment) → KeepsAt answer t m → (room : Room) → Runs room m → AsLeft room m
+  pub ready : (m : Moment) → KeepsAt meaning m → (room : Room) → Runs room m → AsLeft room m
   ready m at room runs =
       let sought = at.runs room runs in
       (sought.long_ledger, sought.long_pending, λ some. sought.waiting m.study.pending some (omega arith))
 
   -- what is kept of a moment is what it means
-  pub means : (m : Moment) → KeepsAt answer t m → Means answer t m
+  pub means : (m : Moment) → KeepsAt meaning m → Means meaning m
   means m at = record { found = at.stands.found; none = at.stands.none; ledger = at.stands.barred; covered = at.stands.covered }
 
   -- a call that leaves the study as it was
-  as_it_was : (m : Moment) (c : Since) (s : Study) → s ≡ m.study → KeepsAt answer t m × Told m c → KeepsAt answer t (moment s m.ledger m.pending) × Told (moment s m.ledger m.pending) (other c)
-  as_it_was m c s same was = (subst (λ x. KeepsAt answer t (moment x m.ledger m.pending)) (sym same) was.0, told_other m (moment s m.ledger m.pending) c was.1 same)
+  as_it_was : (m : Moment) (c : Since) (s : Study) → s ≡ m.study → KeepsAt meaning m × Told m c → KeepsAt meaning (moment s m.ledger m.pending) × Told (moment s m.ledger m.pending) (other c)
+  as_it_was m c s same was = (subst (λ x. KeepsAt meaning (moment x m.ledger m.pending)) (sym same) was.0, told_other m (moment s m.ledger m.pending) c was.1 same)
 
-  edited : (m : Moment) (c : Since) (s : Study) (r : Result (Unit {0}) Fault) → IfOk r (λ _. IsDraft s) × IfErr r (λ _. s ≡ m.study) → KeepsAt answer t m × Told m c → KeepsAt answer t (moment s m.ledger m.pending) × Told (moment s m.ledger m.pending) (other c)
-  edited m c s (Ok x) parts was = (draft_keeps answer t s m.ledger m.pending parts.0, told_draft (moment s m.ledger m.pending) c.slots c.steps was.1.bounded parts.0.state)
+  edited : (m : Moment) (c : Since) (s : Study) (r : Result (Unit {0}) Fault) → IfOk r (λ _. IsDraft s) × IfErr r (λ _. s ≡ m.study) → KeepsAt meaning m × Told m c → KeepsAt meaning (moment s m.ledger m.pending) × Told (moment s m.ledger m.pending) (other c)
+  edited m c s (Ok x) parts was = (draft_keeps meaning s m.ledger m.pending parts.0, told_draft (moment s m.ledger m.pending) c.slots c.steps was.1.bounded parts.0.state)
   edited m c s (Err e) parts was = as_it_was m c s parts.1 was
 
-  module _ (laws : Laws answer) where
-    along : {m : Moment} {c : Since} → History answer t m c → KeepsAt answer t m × Told m c
-    along (start s l p new) = (draft_keeps answer t s l p new.1, told_draft (moment s l p) 0 0 (omega arith) new.1.state)
+  module _ (laws : Laws meaning) where
+    along : {m : Moment} {c : Since} → History meaning m c → KeepsAt meaning m × Told m c
+    along (start s l p new) = (draft_keeps meaning s l p new.1, told_draft (moment s l p) 0 0 (omega arith) new.1.state)
     along (edit {m} {c} h e r s edits) = edited m c s r (edit_parts e m.study r s edits) (along h)
     along (begin {m} {c} h l p after room has begins) =
         let on = begin_accepted (moment m.study l p) after room has begins in
-        (begun_keeps answer t on.0 (moment m.study l p) after on.1 on.2, told_begun on.0 after room.ledger (omega (arith, has.0.2, on.1.0.2)) on.2.state on.2.steps)
+        (begun_keeps meaning on.0 (moment m.study l p) after on.1 on.2, told_begun on.0 after room.ledger (omega (arith, has.0.2, on.1.0.2)) on.2.state on.2.steps)
     along (no_begin {m} {c} h l p after e begins) = as_it_was m c after.study (ap (λ (x : Moment). x.study) (begin_refused (moment m.study l p) after e begins)) (along h)
     along (step {m} {c} h after steps) =
         let was = along h in
         let on = step_accepted m after (ready m was.0) steps in
-        (stepped_keeps answer t laws on.0 m after was.0 on.1 on.2, told_stepped on.0 m after c was.1 on.1 answer t on.2)
+        (stepped_keeps meaning laws on.0 m after was.0 on.1 on.2, told_stepped on.0 m after c was.1 on.1 meaning on.2)
     along (no_step {m} {c} h l p after e steps) = as_it_was m c after.study (ap (λ (x : Moment). x.study) (step_refused (moment m.study l p) after e steps)) (along h)
 
-    pub law : Law answer t
+    pub law : Law meaning
     law m c h =
         let at = along h in
         record {
@@ -308,10 +308,10 @@ module _ {T : Type 0} (answer : T → List Row → ℕ → List Bool → List �
         }
 
     -- the promise after a step from the end of a history
-    pub step_promise : (lent after : Moment) (l p : List ℕ) (c : Since) (r : Result (Unit {0}) Fault) → Steps answer t lent r after → History answer t (moment lent.study l p) c → StepPromise answer t lent after l p c r
+    pub step_promise : (lent after : Moment) (l p : List ℕ) (c : Since) (r : Result (Unit {0}) Fault) → Steps meaning lent r after → History meaning (moment lent.study l p) c → StepPromise meaning lent after l p c r
     step_promise lent after l p c (Ok x) steps h = (
       λ same_ledger same_pending. law after (one_more c)
-          (step (subst (λ x. History answer t (moment lent.study x lent.pending) c) same_ledger (subst (λ x. History answer t (moment lent.study l x) c) same_pending h)) after steps),
+          (step (subst (λ x. History meaning (moment lent.study x lent.pending) c) same_ledger (subst (λ x. History meaning (moment lent.study l x) c) same_pending h)) after steps),
       tt,
     )
     step_promise lent after l p c (Err e) steps h =

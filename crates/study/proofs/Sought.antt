@@ -4,7 +4,7 @@ use Rattle.std.proofs.lemmas.Bool.{cases_lt, cases_eq}
 use Rattle.std.proofs.lemmas.List.{length-take, length-drop}
 use Rattle.table.specs.declared.row.Row.{Row}
 use Rattle.table.proofs.Placed.{length_put}
-use Rattle.bounds.specs.Questions.{Laws}
+use Rattle.bounds.specs.Questions.{Meaning, Laws}
 use Rattle.bounds.specs.Orders.{Estimates}
 use Rattle.orders.specs.declared.range.Range.{Range}
 use Rattle.orders.specs.Ranges.{low, high, LiesIn, Closed}
@@ -32,9 +32,9 @@ slot_full list k some room = record {
 abbrev pub Holding : List Row → List ℕ → ℕ → List ℕ → Type 0
 Holding rows list n estimates = (i : ℕ) × (1 ≤ i) × (i ≤ n) × LiesIn rows estimates (slot list i)
 
-module _ {T : Type 0} (answer : T → List Row → ℕ → List Bool → List ℕ → Option ℕ) (t : T) (rows : List Row) where
+module _ (meaning : Meaning) (rows : List Row) where
   -- growing keeps the 32 rows
-  pub grown_full : (r : Range) → Full r → {k : ℕ} {q : Range} → GrownTo answer t rows r k q → Full q
+  pub grown_full : (r : Range) → Full r → {k : ℕ} {q : Range} → GrownTo meaning rows r k q → Full q
   grown_full r full start = full
   grown_full r full (next {k} {before} {lower} {after} g gl gh) =
       let was = grown_full r full g in
@@ -45,7 +45,7 @@ module _ {T : Type 0} (answer : T → List Row → ℕ → List Bool → List �
 
   -- each of the first n ledger slots is barred
   abbrev pub AllBarred : ℕ → List ℕ → Type 0
-  AllBarred n l = (i : ℕ) → 1 ≤ i → i ≤ n → Barred answer t rows (slot l i)
+  AllBarred n l = (i : ℕ) → 1 ≤ i → i ≤ n → Barred meaning rows (slot l i)
 
   -- A running search on lists with this room: n ledger slots and m pending slots are counted.
   pub record Sought (room : Room) (n m : ℕ) (l p : List ℕ) : Type 0 where
@@ -65,7 +65,7 @@ module _ {T : Type 0} (answer : T → List Row → ℕ → List Bool → List �
     taken_full = slot_full p m some (omega (arith, sought.long_pending, sought.few_waiting))
 
     -- a barred range goes to the next ledger slot
-    module _ (room_left : n < room.ledger) (r : Range) (full : Full r) (barred : Barred answer t rows r) where
+    module _ (room_left : n < room.ledger) (r : Range) (full : Full r) (barred : Barred meaning rows r) where
       abbrev l' : List ℕ
       l' = put_slot l (n + 1) r
 
@@ -83,8 +83,8 @@ module _ {T : Type 0} (answer : T → List Row → ℕ → List Bool → List �
 
       barred_next : AllBarred (n + 1) l'
       barred_next i low high = elim (cases_eq i (n + 1)) [
-        | inl e ↦ subst (λ j. Barred answer t rows (slot l' j)) (sym e) (subst (Barred answer t rows) (sym here) barred)
-        | inr apart ↦ subst (Barred answer t rows) (sym (there i low (omega arith))) (sought.barred i low (omega arith))
+        | inl e ↦ subst (λ j. Barred meaning rows (slot l' j)) (sym e) (subst (Barred meaning rows) (sym here) barred)
+        | inr apart ↦ subst (Barred meaning rows) (sym (there i low (omega arith))) (sought.barred i low (omega arith))
       ]
 
       -- what lay in the ledger still does
@@ -95,54 +95,54 @@ module _ {T : Type 0} (answer : T → List Row → ℕ → List Bool → List �
       now_in : (e : List ℕ) → LiesIn rows e r → Holding rows l' (n + 1) e
       now_in e lies = (n + 1, omega arith, omega arith, subst (LiesIn rows e) (sym here) lies)
 
-module _ {T : Type 0} {answer : T → List Row → ℕ → List Bool → List ℕ → Option ℕ} (laws : Laws answer) (t : T) (rows : List Row) (few : length rows ≤ 32)
-    (room : Room) (n m : ℕ) (l p : List ℕ) (sought : Sought answer t rows room n m l p) (some : 1 ≤ m) (room_left : n < room.ledger) where
+module _ {meaning : Meaning} (laws : Laws meaning) (rows : List Row) (few : length rows ≤ 32)
+    (room : Room) (n m : ℕ) (l p : List ℕ) (sought : Sought meaning rows room n m l p) (some : 1 ≤ m) (room_left : n < room.ledger) where
   within_taken : IsSlot rows (slot p m)
   within_taken = sought.waiting m some (omega arith)
 
   full_taken : Full (slot p m)
-  full_taken = taken_full answer t rows room n m l p sought some
+  full_taken = taken_full meaning rows room n m l p sought some
 
   -- the range that is taken is closed: its grown form goes to the ledger, and it leaves the list
-  module _ (grown : Range) (closed : Closed answer t rows (slot p m)) (grows : GrowsTo answer t rows (slot p m) grown) where
-    maximal : Maximal answer t rows (slot p m) grown
-    maximal = grown_maximal laws t rows few (slot p m) grown within_taken.0 closed grows
+  module _ (grown : Range) (closed : Closed meaning rows (slot p m)) (grows : GrowsTo meaning rows (slot p m) grown) where
+    maximal : Maximal meaning rows (slot p m) grown
+    maximal = grown_maximal laws rows few (slot p m) grown within_taken.0 closed grows
 
     full_grown : Full grown
-    full_grown = grown_full answer t rows (slot p m) full_taken grows
+    full_grown = grown_full meaning rows (slot p m) full_taken grows
 
-    abbrev barred_grown : Barred answer t rows grown
+    abbrev barred_grown : Barred meaning rows grown
     barred_grown = maximal.1
 
     lies_grown : (e : List ℕ) → LiesIn rows e (slot p m) → LiesIn rows e grown
     lies_grown e lies k names = let c = maximal.0 k names in let h = lies k names in (omega (arith, c.0, h.0), omega (arith, c.1, h.1))
 
-    pub sought_kept : Sought answer t rows room (n + 1) (m - 1) (put_slot l (n + 1) grown) p
+    pub sought_kept : Sought meaning rows room (n + 1) (m - 1) (put_slot l (n + 1) grown) p
     sought_kept = record {
-      long_ledger = long_next answer t rows room n m l p sought some room_left grown full_grown barred_grown;
+      long_ledger = long_next meaning rows room n m l p sought some room_left grown full_grown barred_grown;
       long_pending = sought.long_pending;
       few_kept = omega arith;
       few_waiting = omega (arith, sought.few_waiting);
-      barred = barred_next answer t rows room n m l p sought some room_left grown full_grown barred_grown;
+      barred = barred_next meaning rows room n m l p sought some room_left grown full_grown barred_grown;
       waiting = λ i low le. sought.waiting i low (omega arith);
       cover = λ e est. elim (sought.cover e est) [
-        | inl kept ↦ inl (still answer t rows room n m l p sought some room_left grown full_grown barred_grown e kept)
+        | inl kept ↦ inl (still meaning rows room n m l p sought some room_left grown full_grown barred_grown e kept)
         | inr waits ↦ elim (cases_eq waits.0 m) [
-          | inl is ↦ inl (now_in answer t rows room n m l p sought some room_left grown full_grown barred_grown e (lies_grown e (subst (λ i. LiesIn rows e (slot p i)) is waits.3)))
+          | inl is ↦ inl (now_in meaning rows room n m l p sought some room_left grown full_grown barred_grown e (lies_grown e (subst (λ i. LiesIn rows e (slot p i)) is waits.3)))
           | inr apart ↦ inr (waits.0, waits.1, omega (arith, waits.2), waits.3)
         ]
       ];
     }
 
   -- the list of its lows is closed: grown, it goes to the ledger, and the range is replaced by its pieces
-  module _ (u : Range) (closed : Closed answer t rows (lows_of (slot p m))) (grows : GrowsTo answer t rows (lows_of (slot p m)) u) (enough : m - 1 + length (pieces (slot p m) u (length rows)) ≤ room.pending) where
-    maximal_lows : Maximal answer t rows (lows_of (slot p m)) u
-    maximal_lows = grown_maximal laws t rows few (lows_of (slot p m)) u (lows_within rows (slot p m) within_taken.0) closed grows
+  module _ (u : Range) (closed : Closed meaning rows (lows_of (slot p m))) (grows : GrowsTo meaning rows (lows_of (slot p m)) u) (enough : m - 1 + length (pieces (slot p m) u (length rows)) ≤ room.pending) where
+    maximal_lows : Maximal meaning rows (lows_of (slot p m)) u
+    maximal_lows = grown_maximal laws rows few (lows_of (slot p m)) u (lows_within rows (slot p m) within_taken.0) closed grows
 
     full_u : Full u
-    full_u = grown_full answer t rows (lows_of (slot p m)) (record { lows = full_taken.lows; highs = full_taken.lows }) grows
+    full_u = grown_full meaning rows (lows_of (slot p m)) (record { lows = full_taken.lows; highs = full_taken.lows }) grows
 
-    abbrev barred_u : Barred answer t rows u
+    abbrev barred_u : Barred meaning rows u
     barred_u = maximal_lows.1
 
     abbrev ps : List Range
@@ -171,19 +171,19 @@ module _ {T : Type 0} {answer : T → List Row → ℕ → List Bool → List �
 
     waits_in : (e : List ℕ) → LiesIn rows e (slot p m) → Holding rows (put_slot l (n + 1) u) (n + 1) e ⊎ Holding rows (put_slots p m ps) (m - 1 + length ps) e
     waits_in e lies = elim (covered rows few (slot p m) u full_taken e lies (λ k names. (maximal_lows.0 k names).0)) [
-      | inl inside ↦ inl (now_in answer t rows room n m l p sought some room_left u full_u barred_u e inside)
+      | inl inside ↦ inl (now_in meaning rows room n m l p sought some room_left u full_u barred_u e inside)
       | inr piece_k ↦
           let at = place_of (slot p m) u (length rows) piece_k.0 u piece_k.1.0 piece_k.1.1 piece_k.2 in
           inr (m + at.0, omega arith, omega (arith, at.1), subst (LiesIn rows e) (sym (at_pieces at.0 u at.1 ∙ at.2)) piece_k.3)
     ]
 
-    pub sought_split : Sought answer t rows room (n + 1) (m - 1 + length ps) (put_slot l (n + 1) u) (put_slots p m ps)
+    pub sought_split : Sought meaning rows room (n + 1) (m - 1 + length ps) (put_slot l (n + 1) u) (put_slots p m ps)
     sought_split = record {
-      long_ledger = long_next answer t rows room n m l p sought some room_left u full_u barred_u;
+      long_ledger = long_next meaning rows room n m l p sought some room_left u full_u barred_u;
       long_pending = put_slots_length ps p m full_pieces some fits_pieces ∙ sought.long_pending;
       few_kept = omega arith;
       few_waiting = enough;
-      barred = barred_next answer t rows room n m l p sought some room_left u full_u barred_u;
+      barred = barred_next meaning rows room n m l p sought some room_left u full_u barred_u;
       waiting = λ i low le. elim (cases_lt i m) [
         | inl before ↦ subst (IsSlot rows) (sym (before_pieces i low before)) (sought.waiting i low (omega arith))
         | inr past ↦
@@ -191,7 +191,7 @@ module _ {T : Type 0} {answer : T → List Row → ℕ → List Bool → List �
             subst (λ j. IsSlot rows (slot (put_slots p m ps) j)) on (subst (IsSlot rows) (sym (at_pieces (i - m) u (omega arith))) (piece_is_slot (i - m) u (omega arith)))
       ];
       cover = λ e est. elim (sought.cover e est) [
-        | inl kept ↦ inl (still answer t rows room n m l p sought some room_left u full_u barred_u e kept)
+        | inl kept ↦ inl (still meaning rows room n m l p sought some room_left u full_u barred_u e kept)
         | inr waits ↦ elim (cases_eq waits.0 m) [
           | inl is ↦ waits_in e (subst (λ i. LiesIn rows e (slot p i)) is waits.3)
           | inr apart ↦ inr (waits.0, waits.1, omega (arith, waits.2), subst (LiesIn rows e) (sym (before_pieces waits.0 waits.1 (omega (arith, waits.2)))) waits.3)

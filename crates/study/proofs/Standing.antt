@@ -5,7 +5,7 @@ use Rattle.std.proofs.lemmas.List.{ext_get_or, length-take, get_or-take, get_or_
 use Rattle.table.specs.declared.row.Row.{Row}
 use Rattle.table.specs.Places.{nth}
 use Rattle.table.proofs.Placed.{nth_at, nth_next}
-use Rattle.bounds.specs.Questions.{Laws}
+use Rattle.bounds.specs.Questions.{Meaning, Laws}
 use Rattle.bounds.specs.Orders.{Order, Estimates, HasLate, padded}
 use Rattle.bounds.proofs.Padded.{padded_length, padded_read, padded_at}
 use Rattle.orders.specs.declared.range.Range.{Range}
@@ -48,27 +48,27 @@ estimates_within rows es few est k names =
     let at = est.within k names in
     (omega (arith, same, at.0), omega arith, omega (arith, same, at.1))
 
-module _ {T : Type 0} {answer : T → List Row → ℕ → List Bool → List ℕ → Option ℕ} (laws : Laws answer) (t : T) (rows : List Row) (few : length rows ≤ 32) where
+module _ {meaning : Meaning} (laws : Laws meaning) (rows : List Row) (few : length rows ≤ 32) where
   -- the order that is found for the list of a range's lows lists every row once, holds and passes them; they are estimates of the rows
-  pub finding_shows : (taken : Range) (f : Finding) → Full taken → IsSlot rows taken → Finds answer t rows taken f → Shown answer t rows f
+  pub finding_shows : (taken : Range) (f : Finding) → Full taken → IsSlot rows taken → Finds meaning rows taken f → Shown meaning rows f
   finding_shows taken f full slot finds =
       let order = take (length rows) f.order in
       let lows = take (length rows) taken.lows in
-      let admits = finds_if_open laws t rows (lows_of taken) few (Some f.order) finds.0 (lows_within rows taken slot.0) in
+      let admits = finds_if_open laws rows (lows_of taken) few (Some f.order) finds.0 (lows_within rows taken slot.0) in
       let is : lows_of taken ≡ as_range lows =
       ap (λ (xs : List ℕ). let r : Range = record { lows = xs; highs = xs } in r) (sym (lows_padded (length rows) taken.lows few full.lows slot.1)) in
-      let passes : Passes answer t rows (as_range lows) order = subst (λ r. Passes answer t rows r order) is admits.1 in
-      let holds = (related laws t rows few).below order lows admits.0 (lows_estimates rows taken few full slot.0) passes in
-      let shown = subst (λ es. Estimates rows (take (length rows) es) × Passes answer t rows (as_range (take (length rows) es)) order) (sym finds.1) (lows_estimates rows taken few full slot.0, passes) in
+      let passes : Passes meaning rows (as_range lows) order = subst (λ r. Passes meaning rows r order) is admits.1 in
+      let holds = (related laws rows few).below order lows admits.0 (lows_estimates rows taken few full slot.0) passes in
+      let shown = subst (λ es. Estimates rows (take (length rows) es) × Passes meaning rows (as_range (take (length rows) es)) order) (sym finds.1) (lows_estimates rows taken few full slot.0, passes) in
       (admits.0, (holds.0, holds.1), shown.0, shown.1)
 
   -- where barred ranges hold every list of estimates, every order has a late task
-  pub every_late : (n : ℕ) (l : List ℕ) → AllBarred answer t rows n l → ((es : List ℕ) → Estimates rows es → Holding rows l n es) → (order : List ℕ) → Order (length rows) order → HasLate answer t rows order
-  every_late n l barred cover order o = elim ((related laws t rows few).either order o).0 [
+  pub every_late : (n : ℕ) (l : List ℕ) → AllBarred meaning rows n l → ((es : List ℕ) → Estimates rows es → Holding rows l n es) → (order : List ℕ) → Order rows order → HasLate meaning rows order
+  every_late n l barred cover order o = elim ((related laws rows few).either order o).0 [
     | inl holds ↦
-        let own = own_estimates laws t rows few order o holds in
+        let own = own_estimates laws rows few order o holds in
         let at = cover own.0 own.1 in
         let bar = barred at.0 at.1 at.2 in
-        absurd (narrowing laws t rows few (slot l at.0) (as_range own.0) bar.within (estimates_within rows own.0 few own.1) at.3 bar.closed order (o, own.2))
+        absurd (narrowing laws rows few (slot l at.0) (as_range own.0) bar.within (estimates_within rows own.0 few own.1) at.3 bar.closed order (o, own.2))
     | inr late ↦ late
   ]

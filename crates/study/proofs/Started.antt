@@ -12,10 +12,11 @@ use Rattle.bounds.proofs.Wcets.{column_at}
 use Rattle.orders.specs.Ranges.{LiesIn}
 use Rattle.study.specs.declared.room.Room.{Room}
 use Rattle.study.specs.Slots.{slot, put_slot}
-use Rattle.study.specs.Begins.{whole}
+use Rattle.study.specs.Whole.{whole}
 use Rattle.study.specs.Steps.{ZeroPast, IsSlot}
 use Rattle.study.proofs.Overs.{Full, put_slot_length, put_slot_back}
 use Rattle.study.proofs.Sought.{Sought}
+use Rattle.bounds.specs.Questions.{Meaning}
 
 -- a list by row, filled up, has 0 past its end
 padded_past : (n : ℕ) (xs : List ℕ) → length xs ≡ n → ZeroPast n (padded xs)
@@ -47,8 +48,8 @@ module _ (rows : List Row) (few : length rows ≤ 32) where
       let at = est.within k names in
       (omega (arith, low_at k names, same, at.0), omega (arith, high_at k names, same, at.1))
 
-  module _ {T : Type 0} (answer : T → List Row → ℕ → List Bool → List ℕ → Option ℕ) (t : T) where
-    pub sought_begun : (room : Room) (l p : List ℕ) → 1 ≤ room.pending → length l ≡ 64 * room.ledger → length p ≡ 64 * room.pending → Sought answer t rows room 0 1 l (put_slot p 1 (whole rows))
+  module _ (meaning : Meaning) where
+    pub sought_begun : (room : Room) (l p : List ℕ) → 1 ≤ room.pending → length l ≡ 64 * room.ledger → length p ≡ 64 * room.pending → Sought meaning rows room 0 1 l (put_slot p 1 (whole rows))
     sought_begun room l p some long_ledger long_pending =
         let fits : 64 * 1 ≤ length p = omega arith in
         let back = put_slot_back p 1 (whole rows) whole_full (omega arith) fits in

@@ -1,23 +1,13 @@
 -- What begin does.
-use Rattle.std.specs.Prelude.{◌≡◌, ℕ, ◌≤◌, List, map, length, Ok, Result}
-use Rattle.table.specs.declared.row.Row.{Row}
+use Rattle.std.specs.Prelude.{◌≡◌, ℕ, ◌≤◌, length, Ok, Result}
 use Rattle.table.specs.declared.fault.Fault.{Fault}
 use Rattle.table.specs.declared.fault.Fault.TheVariants.{Empty, BadSlots}
 use Rattle.table.specs.Asking.{Asks, Refuses}
-use Rattle.bounds.specs.Orders.{padded, wcets}
-use Rattle.orders.specs.declared.range.Range.{Range}
 use Rattle.study.specs.declared.room.Room.{Room}
 use Rattle.study.specs.declared.state.State.TheVariants as state
 use Rattle.study.specs.Slots.{HasSlots, put_slot}
+use Rattle.study.specs.Whole.{whole}
 use Rattle.study.specs.Moments.{Moment, rows_of}
-
--- the D of each row
-abbrev pub deadlines : List Row → List ℕ
-deadlines rows = map (λ (r : Row). r.deadline) rows
-
--- the range of all C to D, with 0 past the last row
-abbrev pub whole : List Row → Range
-whole rows = record { lows = wcets rows; highs = padded (deadlines rows) }
 
 -- each list is of whole slots, 1 to 4,096 of them
 abbrev pub HasRoom : Room → Moment → Type 0

@@ -16,6 +16,7 @@ use Rattle.study.specs.Calls.{IsNew, EditsBy}
 use Rattle.study.specs.Moments.{Moment, moment, rows_of}
 use Rattle.study.specs.Begins.{HasRoom, Begins}
 use Rattle.study.specs.Steps.{Runs, AsLeft, Steps}
+use Rattle.bounds.specs.Questions.{Meaning, Laws}
 
 -- What a history counts: the ledger slots of the last accepted begin, the accepted steps since, and whether the last call was an accepted step.
 pub record Since : Type 0 where
@@ -39,7 +40,7 @@ one_more c = record { slots = c.slots; steps = c.steps + 1; stepped = true }
 abbrev pub other : Since → Since
 other c = record { slots = c.slots; steps = c.steps; stepped = false }
 
-module _ {T : Type 0} (answer : T → List Row → ℕ → List Bool → List ℕ → Option ℕ) (t : T) where
+module _ (meaning : Meaning) where
   -- A history of calls under one test: it begins with a new study and two lists of any length and contents, and nothing but its calls writes to them.
   pub data History : Moment → Since → Type 0 where
     start : (s : Study) (l p : List ℕ) → IsNew s → History (moment s l p) none_begun
@@ -50,25 +51,25 @@ module _ {T : Type 0} (answer : T → List Row → ℕ → List Bool → List �
     -- a refused begin, on any lists: those at hand stay
     no_begin : {m : Moment} {c : Since} → History m c → (l p : List ℕ) (after : Moment) (e : Fault) → Begins (moment m.study l p) (Err e) after → History (moment after.study m.ledger m.pending) (other c)
     -- an accepted step, on the lists at hand
-    step : {m : Moment} {c : Since} → History m c → (after : Moment) → Steps answer t m (Ok tt) after → History after (one_more c)
+    step : {m : Moment} {c : Since} → History m c → (after : Moment) → Steps meaning m (Ok tt) after → History after (one_more c)
     -- a refused step, on any lists: those at hand stay
-    no_step : {m : Moment} {c : Since} → History m c → (l p : List ℕ) (after : Moment) (e : Fault) → Steps answer t (moment m.study l p) (Err e) after → History (moment after.study m.ledger m.pending) (other c)
+    no_step : {m : Moment} {c : Since} → History m c → (l p : List ℕ) (after : Moment) (e : Fault) → Steps meaning (moment m.study l p) (Err e) after → History (moment after.study m.ledger m.pending) (other c)
 
   -- what is shown on found: the order lists every row once, and no task of it is late; each estimate lies from its row's C to its D, and the order passes them
   abbrev pub Shown : List Row → Finding → Type 0
   Shown rows f =
       let order = take (length rows) f.order in
       let estimates = take (length rows) f.estimates in
-      Order (length rows) order × Holds answer t rows order × Estimates rows estimates × Passes answer t rows (as_range estimates) order
+      Order rows order × Holds meaning rows order × Estimates rows estimates × Passes meaning rows (as_range estimates) order
 
   -- What a verdict and a ledger mean.
   pub record Means (m : Moment) : Type 0 where
     -- found: the order shown holds, and passes the estimates shown
     pub found : (f : Finding) → m.study.state ≡ state.Found f → Shown (rows_of m) f
     -- none: every order has a late task
-    pub none : m.study.state ≡ state.None → (order : List ℕ) → Order (length (rows_of m)) order → HasLate answer t (rows_of m) order
+    pub none : m.study.state ≡ state.None → (order : List ℕ) → Order (rows_of m) order → HasLate meaning (rows_of m) order
     -- each counted ledger range is closed, and every wider one is open
-    pub ledger : (k : ℕ) → 1 ≤ k → k ≤ m.study.ledger → Barred answer t (rows_of m) (slot m.ledger k)
+    pub ledger : (k : ℕ) → 1 ≤ k → k ≤ m.study.ledger → Barred meaning (rows_of m) (slot m.ledger k)
     -- on none, every list of estimates lies in a counted ledger range
     pub covered : m.study.state ≡ state.None → (estimates : List ℕ) → Estimates (rows_of m) estimates → (k : ℕ) × (1 ≤ k) × (k ≤ m.study.ledger) × LiesIn (rows_of m) estimates (slot m.ledger k)
 
@@ -103,3 +104,9 @@ module _ {T : Type 0} (answer : T → List Row → ℕ → List Bool → List �
   BeginPromise lent after l p c r =
       IfOk r (λ _. Promise after (begun (length lent.ledger / 64)))
       × IfErr r (λ _. StaysPromised after.study l p c)
+
+-- The promise after an edit, for every test that keeps the laws and every history to this study: it touches no list.
+abbrev pub EditPromise : Study → Study → Type 0
+EditPromise before after =
+    (meaning : Meaning) (l p : List ℕ) (c : Since) → Laws meaning → History meaning (moment before l p) c →
+    StaysPromised meaning after l p c

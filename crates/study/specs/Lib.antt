@@ -1,4 +1,5 @@
 pub mod Slots
+pub mod Whole
 pub mod Counts
 pub mod Calls
 pub mod Moments

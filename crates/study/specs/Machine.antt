@@ -9,16 +9,17 @@ use Rattle.study.specs.Moments.{Moment}
 use Rattle.study.specs.Begins.{Begins}
 use Rattle.study.specs.Steps.{Steps}
 use Rattle.study.specs.Histories.{Since, StaysPromised, BeginPromise, StepPromise}
+use Rattle.bounds.specs.Questions.{Meaning}
 
-module _ {T : Type 0} (answer : T → List Row → ℕ → List Bool → List ℕ → Option ℕ) (t : T) where
+module _ (meaning : Meaning) where
   -- for each call, what it does with a study and two lists; an edit touches no list
   abbrev pub Calls : Call → Moment → Result (Unit {0}) Fault → Moment → Type 0
   Calls (call.Edit edit) before r after = EditsBy edit before.study r after.study × (after.ledger ≡ before.ledger) × (after.pending ≡ before.pending)
   Calls call.Begin before r after = Begins before r after
-  Calls call.Step before r after = Steps answer t before r after
+  Calls call.Step before r after = Steps meaning before r after
 
   -- The promise after any call, where a history has led to this study with the lists l and p at hand. The call may be lent others.
   abbrev pub CallPromise : Call → Moment → Moment → List ℕ → List ℕ → Since → Result (Unit {0}) Fault → Type 0
-  CallPromise (call.Edit edit) lent after l p c r = StaysPromised answer t after.study l p c
-  CallPromise call.Begin lent after l p c r = BeginPromise answer t lent after l p c r
-  CallPromise call.Step lent after l p c r = StepPromise answer t lent after l p c r
+  CallPromise (call.Edit edit) lent after l p c r = StaysPromised meaning after.study l p c
+  CallPromise call.Begin lent after l p c r = BeginPromise meaning lent after l p c r
+  CallPromise call.Step lent after l p c r = StepPromise meaning lent after l p c r

@@ -10,12 +10,13 @@ use Rattle.study.specs.Moments.{Moment, rows_of}
 use Rattle.study.specs.Begins.{HasRoom, Begins}
 use Rattle.study.specs.Steps.{Steps}
 use Rattle.study.specs.Histories.{Since, Promise, StaysPromised}
+use Rattle.bounds.specs.Questions.{Meaning}
 
-module _ {T : Type 0} (answer : T → List Row → ℕ → List Bool → List ℕ → Option ℕ) (t : T) where
+module _ (meaning : Meaning) where
   -- an accepted begin on lists with this room, and then n accepted steps, each while there is no verdict, lead from one moment to another
   pub data Leads (room : Room) (before : Moment) : ℕ → Moment → Type 0 where
     begins : {after : Moment} → Begins before (Ok tt) after → Leads room before 0 after
-    steps : {n : ℕ} {m after : Moment} → Leads room before n m → verdicts m.study.state ≡ 0 → Steps answer t m (Ok tt) after → Leads room before (n + 1) after
+    steps : {n : ℕ} {m after : Moment} → Leads room before n m → verdicts m.study.state ≡ 0 → Steps meaning m (Ok tt) after → Leads room before (n + 1) after
 
   -- they end with the first verdict, after at most one step more than the ledger has slots
   pub record Searched (room : Room) (before after : Moment) : Type 0 where
@@ -34,5 +35,5 @@ module _ {T : Type 0} (answer : T → List Row → ℕ → List Bool → List �
   -- The promise after a search, where a history has led to this study with the lists l and p at hand. It may be lent two others, as its begin may.
   abbrev pub SearchPromise : Moment → Moment → List ℕ → List ℕ → Since → Result (Unit {0}) Fault → Type 0
   SearchPromise lent after l p c r =
-      IfOk r (λ _. Promise answer t after (record { slots = length lent.ledger / 64; steps = after.study.steps; stepped = true }))
-      × IfErr r (λ _. StaysPromised answer t after.study l p c)
+      IfOk r (λ _. Promise meaning after (record { slots = length lent.ledger / 64; steps = after.study.steps; stepped = true }))
+      × IfErr r (λ _. StaysPromised meaning after.study l p c)

@@ -15,6 +15,7 @@ use Rattle.study.specs.Slots.{slot, put_slot}
 use Rattle.study.specs.Pieces.{pieces, put_slots}
 use Rattle.study.specs.Moments.{Moment, rows_of}
 use Rattle.study.specs.Turns.{lows_of, GrowsTo, Finds}
+use Rattle.bounds.specs.Questions.{Meaning}
 
 -- a search is running, on lists with this room
 abbrev pub Runs : Room → Moment → Type 0
@@ -62,26 +63,26 @@ pieces_of m u = pieces (taken_of m) u (length (rows_of m))
 abbrev pub pending_after : Moment → Range → ℕ
 pending_after m u = m.study.pending - 1 + length (pieces_of m u)
 
-module _ {T : Type 0} (answer : T → List Row → ℕ → List Bool → List ℕ → Option ℕ) (t : T) where
+module _ (meaning : Meaning) where
   -- One step's work on lists that are as the search left them: the first of these that applies.
   pub data Stepped (room : Room) (before after : Moment) : Type 0 where
     -- nothing is pending
     none : before.study.pending ≡ 0 → Ends before state.None after → Stepped room before after
     -- the last pending range is closed: its grown form goes to the ledger, and it leaves the list
-    keeps : (grown : Range) → 1 ≤ before.study.pending → Closed answer t (rows_of before) (taken_of before) → GrowsTo answer t (rows_of before) (taken_of before) grown
+    keeps : (grown : Range) → 1 ≤ before.study.pending → Closed meaning (rows_of before) (taken_of before) → GrowsTo meaning (rows_of before) (taken_of before) grown
         → before.study.ledger < room.ledger
         → Leaves before (state.Running room) (before.study.ledger + 1) (before.study.pending - 1) (recorded before grown) before.pending after → Stepped room before after
     -- it is closed, and the ledger has no slot left
-    keep_stops : 1 ≤ before.study.pending → Closed answer t (rows_of before) (taken_of before) → room.ledger ≤ before.study.ledger → Ends before state.Stopped after → Stepped room before after
+    keep_stops : 1 ≤ before.study.pending → Closed meaning (rows_of before) (taken_of before) → room.ledger ≤ before.study.ledger → Ends before state.Stopped after → Stepped room before after
     -- the range is open, and so is the list of its lows
-    finds : (f : Finding) → 1 ≤ before.study.pending → Open answer t (rows_of before) (taken_of before) → Open answer t (rows_of before) (lows_of (taken_of before)) → Finds answer t (rows_of before) (taken_of before) f → Ends before (state.Found f) after → Stepped room before after
+    finds : (f : Finding) → 1 ≤ before.study.pending → Open meaning (rows_of before) (taken_of before) → Open meaning (rows_of before) (lows_of (taken_of before)) → Finds meaning (rows_of before) (taken_of before) f → Ends before (state.Found f) after → Stepped room before after
     -- neither: the list of its lows is grown to U, which goes to the ledger, and the range is replaced by its pieces
-    splits : (u : Range) → 1 ≤ before.study.pending → Open answer t (rows_of before) (taken_of before) → Closed answer t (rows_of before) (lows_of (taken_of before)) → GrowsTo answer t (rows_of before) (lows_of (taken_of before)) u
+    splits : (u : Range) → 1 ≤ before.study.pending → Open meaning (rows_of before) (taken_of before) → Closed meaning (rows_of before) (lows_of (taken_of before)) → GrowsTo meaning (rows_of before) (lows_of (taken_of before)) u
         → before.study.ledger < room.ledger → pending_after before u ≤ room.pending
         → Leaves before (state.Running room) (before.study.ledger + 1) (pending_after before u)
         (recorded before u) (put_slots before.pending before.study.pending (pieces_of before u)) after → Stepped room before after
     -- neither, and a ledger or pending slot is lacking
-    split_stops : (u : Range) → 1 ≤ before.study.pending → Open answer t (rows_of before) (taken_of before) → Closed answer t (rows_of before) (lows_of (taken_of before)) → GrowsTo answer t (rows_of before) (lows_of (taken_of before)) u
+    split_stops : (u : Range) → 1 ≤ before.study.pending → Open meaning (rows_of before) (taken_of before) → Closed meaning (rows_of before) (lows_of (taken_of before)) → GrowsTo meaning (rows_of before) (lows_of (taken_of before)) u
         → (room.ledger ≤ before.study.ledger) ⊎ (room.pending < pending_after before u)
         → Ends before state.Stopped after → Stepped room before after
 

@@ -8,22 +8,23 @@ use Rattle.orders.specs.Growth.{GrownTo}
 use Rattle.study.specs.declared.finding.Finding.{Finding}
 use Rattle.study.specs.declared.turn.Turn.{Turn}
 use Rattle.study.specs.declared.turn.Turn.TheVariants.{Keep, Find, Split}
+use Rattle.bounds.specs.Questions.{Meaning}
 
 -- the list of a range's lows, as a range
 abbrev pub lows_of : Range → Range
 lows_of r = record { lows = r.lows; highs = r.lows }
 
-module _ {T : Type 0} (answer : T → List Row → ℕ → List Bool → List ℕ → Option ℕ) (t : T) (rows : List Row) where
+module _ (meaning : Meaning) (rows : List Row) where
   -- a range grows to another: row by row, each low and then each high
   abbrev pub GrowsTo : Range → Range → Type 0
-  GrowsTo r q = GrownTo answer t rows r (length rows) q
+  GrowsTo r q = GrownTo meaning rows r (length rows) q
 
   -- the assigner's order for the list of a range's lows, and these lows
   abbrev pub Finds : Range → Finding → Type 0
-  Finds taken f = Assigns answer t rows (lows_of taken) (Some f.order) × (f.estimates ≡ taken.lows)
+  Finds taken f = Assigns meaning rows (lows_of taken) (Some f.order) × (f.estimates ≡ taken.lows)
 
   -- the first of these that applies: the range is closed, and its grown form is kept; the list of its lows is open, and its order found; or that list is grown, and the range split by it
   abbrev pub Turns : Range → Turn → Type 0
-  Turns taken (Keep grown) = Closed answer t rows taken × GrowsTo taken grown
-  Turns taken (Find f) = Open answer t rows taken × Open answer t rows (lows_of taken) × Finds taken f
-  Turns taken (Split u) = Open answer t rows taken × Closed answer t rows (lows_of taken) × GrowsTo (lows_of taken) u
+  Turns taken (Keep grown) = Closed meaning rows taken × GrowsTo taken grown
+  Turns taken (Find f) = Open meaning rows taken × Open meaning rows (lows_of taken) × Finds taken f
+  Turns taken (Split u) = Open meaning rows taken × Closed meaning rows (lows_of taken) × GrowsTo (lows_of taken) u

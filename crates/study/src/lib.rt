@@ -9,3 +9,11 @@ pub mod room;
 pub mod state;
 pub mod study;
 mod turn;
+mod whole;
+
+pub use call::Call;
+pub use edit::Edit;
+pub use finding::Finding;
+pub use room::Room;
+pub use state::State;
+pub use study::Study;

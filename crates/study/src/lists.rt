@@ -5,9 +5,8 @@ ghost use Rattle.study.specs.Steps.{ZeroPast, IsSlot};
 ghost use Rattle.study.specs.Slots.{written_over, slot, put_slot, HasSlots};
 
 use orders::assign::is_range;
-use orders::range::Range;
-use table::row::Row;
-use table::rows::Table;
+use orders::Range;
+use table::{Row, Table};
 
 // How many numbers a slot has, and how many rows they are for.
 pub(crate) const SLOT: usize = 64;
@@ -78,7 +77,7 @@ fn is_zero_past(numbers: &[u32; 32], rows: usize) -> bool
 }
 
 // Whether this is a range of the table, with 0 past the last row.
-pub(crate) fn is_slot(table: &Table<Row>, range: &Range) -> bool
+pub(crate) fn is_slot(table: &Table, range: &Range) -> bool
     ensures { IsTrue result ↔ IsSlot (view table.now) range.now }
 {
     let rows = table.len();

@@ -3,7 +3,7 @@ ghost use Rattle.std.specs.Prelude.{◌≡◌, ◌+◌, ◌-◌, ◌*◌, ◌≤
 ghost use Rattle.study.specs.Pieces.{pieces, put_slots};
 
 use crate::lists::write_slot;
-use orders::range::Range;
+use orders::Range;
 
 // How many pieces there are: one for each row whose high in `grown` is below its taken high.
 pub(crate) fn count_pieces(rows: usize, taken: &Range, grown: &Range) -> usize

@@ -1,10 +1,10 @@
 // Where a study stands.
+ghost use Rattle.std.specs.Prelude.{◌≡◌};
+
 use crate::finding::Finding;
 use crate::room::Room;
 
-pub mod read;
-
-/// Found, none and stopped are the verdicts.
+/// Where a study stands. Found, none and stopped are the verdicts.
 #[derive(Clone, Copy, PartialEq, Eq, Debug)]
 pub enum State {
     Draft,
@@ -13,4 +13,18 @@ pub enum State {
     Found(Finding),
     None,
     Stopped,
+}
+
+impl State {
+    ghost use Rattle.study.specs.Counts.{finding_in};
+
+    /// The order that was found, with its estimates, while the state is found.
+    pub fn finding(self) -> Option<Finding>
+        ensures { result ≡ finding_in self }
+    {
+        match self {
+            State::Found(finding) => Some(finding),
+            State::Draft | State::Running(_) | State::None | State::Stopped => None,
+        }
+    }
 }

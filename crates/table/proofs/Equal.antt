@@ -7,7 +7,7 @@ use Rattle.table.specs.declared.numbers.Numbers.{Numbers}
 use Rattle.table.specs.declared.row.Row.{Row}
 use Rattle.table.specs.Rows.{IsRow}
 
-abbrev numbers : Row → Numbers
+abbrev pub numbers : Row → Numbers
 numbers r = record { wcet = r.wcet; period = r.period; deadline = r.deadline }
 
 made : (n : Numbers) → IsRow n → Row

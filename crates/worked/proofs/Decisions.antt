@@ -3,70 +3,77 @@ use Rattle.std.proofs.Common.{◌≡◌, ℕ, ◌≤◌, true, List, [], ◌∷�
 use Rattle.std.proofs.Math.Nat.{zero-div}
 use Rattle.table.specs.declared.row.Row.{Row}
 use Rattle.table.specs.Places.{nth, put}
-use Rattle.bounds.specs.declared.rta.Rta.{Rta}
+use Rattle.bounds.specs.declared.processors.Processors.{Processors}
 use Rattle.bounds.specs.Questions.{all_to}
 use Rattle.bounds.specs.Loads.{sum_to}
 use Rattle.bounds.specs.Orders.{padded}
-use Rattle.bounds.specs.Responses.{least_from}
+use Rattle.bounds.specs.Responses.{least_from, rta}
 use Rattle.bounds.specs.ResponseLoads.{rta_laws}
 use Rattle.orders.specs.declared.range.Range.{Range}
 use Rattle.orders.specs.Assigner.{fill, full, assigned}
 use Rattle.orders.specs.Ranges.{Open, Closed}
 use Rattle.orders.proofs.Audsley.{decided}
 use Rattle.orders.proofs.Withins.{withinb}
-use Rattle.worked.specs.Examples.{tasks, pair, lone, both, on_two, on_one, response, ranged}
+use Rattle.worked.specs.Examples.{tasks, pair, lone, both, ranged}
+
+-- 2 processors, and 1
+abbrev pub two : Processors
+two = record { count = 2; ok = (lit≤ tt, lit≤ tt) }
+
+abbrev pub one : Processors
+one = record { count = 1; ok = (lit≤ tt, lit≤ tt) }
 
 -- what the assigner gives decides a range
-shut : (t : Rta) (rows : List Row) (r : Range) → length rows ≤ 32 → assigned response t rows r ≡ None → Closed response t rows r
-shut t rows r few is = decided rta_laws t rows r few None is
+shut : (p : Processors) (rows : List Row) (r : Range) → length rows ≤ 32 → assigned (rta p.count) rows r ≡ None → Closed (rta p.count) rows r
+shut p rows r few is = decided (rta_laws p) rows r few None is
 
-opens : (t : Rta) (rows : List Row) (r : Range) (order : List ℕ) → length rows ≤ 32 → assigned response t rows r ≡ Some order → Open response t rows r
-opens t rows r order few is = (order, decided rta_laws t rows r few (Some order) is)
+opens : (p : Processors) (rows : List Row) (r : Range) (order : List ℕ) → length rows ≤ 32 → assigned (rta p.count) rows r ≡ Some order → Open (rta p.count) rows r
+opens p rows r order few is = (order, decided (rta_laws p) rows r few (Some order) is)
 
 -- a range of three rows: the lows, then the highs
 abbrev pub of_three : ℕ → ℕ → ℕ → ℕ → ℕ → ℕ → Range
 of_three a b c x y z = record { lows = padded (a ∷ (b ∷ (c ∷ []))); highs = padded (x ∷ (y ∷ (z ∷ []))) }
 
 -- the tasks: all that begin writes, and the list of its lows
-pub all_open : Open response on_two tasks (of_three 2 2 3 5 5 6)
+pub all_open : Open (rta 2) tasks (of_three 2 2 3 5 5 6)
 unfolding nth put all_to sum_to least_from fill full
-all_open = opens on_two tasks (of_three 2 2 3 5 5 6) (3 ∷ (2 ∷ (1 ∷ []))) (lit≤ tt) refl
+all_open = opens two tasks (of_three 2 2 3 5 5 6) (3 ∷ (2 ∷ (1 ∷ []))) (lit≤ tt) refl
 
-pub lows_closed : Closed response on_two tasks (of_three 2 2 3 2 2 3)
+pub lows_closed : Closed (rta 2) tasks (of_three 2 2 3 2 2 3)
 unfolding nth put all_to sum_to least_from fill full
-lows_closed = shut on_two tasks (of_three 2 2 3 2 2 3) (lit≤ tt) refl
+lows_closed = shut two tasks (of_three 2 2 3 2 2 3) (lit≤ tt) refl
 
 -- each high at which the list that grows is closed, and the next one, at which it is open
-pub a_closed : Closed response on_two tasks (of_three 2 2 3 3 2 3)
+pub a_closed : Closed (rta 2) tasks (of_three 2 2 3 3 2 3)
 unfolding nth put all_to sum_to least_from fill full
-a_closed = shut on_two tasks (of_three 2 2 3 3 2 3) (lit≤ tt) refl
+a_closed = shut two tasks (of_three 2 2 3 3 2 3) (lit≤ tt) refl
 
-pub a_open : Open response on_two tasks (of_three 2 2 3 4 2 3)
+pub a_open : Open (rta 2) tasks (of_three 2 2 3 4 2 3)
 unfolding nth put all_to sum_to least_from fill full
-a_open = opens on_two tasks (of_three 2 2 3 4 2 3) (3 ∷ (2 ∷ (1 ∷ []))) (lit≤ tt) refl
+a_open = opens two tasks (of_three 2 2 3 4 2 3) (3 ∷ (2 ∷ (1 ∷ []))) (lit≤ tt) refl
 
-pub b_closed : Closed response on_two tasks (of_three 2 2 3 3 3 3)
+pub b_closed : Closed (rta 2) tasks (of_three 2 2 3 3 3 3)
 unfolding nth put all_to sum_to least_from fill full
-b_closed = shut on_two tasks (of_three 2 2 3 3 3 3) (lit≤ tt) refl
+b_closed = shut two tasks (of_three 2 2 3 3 3 3) (lit≤ tt) refl
 
-pub b_open : Open response on_two tasks (of_three 2 2 3 3 4 3)
+pub b_open : Open (rta 2) tasks (of_three 2 2 3 3 4 3)
 unfolding nth put all_to sum_to least_from fill full
-b_open = opens on_two tasks (of_three 2 2 3 3 4 3) (3 ∷ (1 ∷ (2 ∷ []))) (lit≤ tt) refl
+b_open = opens two tasks (of_three 2 2 3 3 4 3) (3 ∷ (1 ∷ (2 ∷ []))) (lit≤ tt) refl
 
-pub c_closed : Closed response on_two tasks (ranged 4)
+pub c_closed : Closed (rta 2) tasks (ranged 4)
 unfolding nth put all_to sum_to least_from fill full
-c_closed = shut on_two tasks (ranged 4) (lit≤ tt) refl
+c_closed = shut two tasks (ranged 4) (lit≤ tt) refl
 
-pub c_open : Open response on_two tasks (ranged 5)
+pub c_open : Open (rta 2) tasks (ranged 5)
 unfolding nth put all_to sum_to least_from fill full
-c_open = opens on_two tasks (ranged 5) (2 ∷ (1 ∷ (3 ∷ []))) (lit≤ tt) refl
+c_open = opens two tasks (ranged 5) (2 ∷ (1 ∷ (3 ∷ []))) (lit≤ tt) refl
 
 -- the last piece, and the list of its lows
-pub last_open : Open response on_two tasks (of_three 2 2 5 3 3 6)
+pub last_open : Open (rta 2) tasks (of_three 2 2 5 3 3 6)
 unfolding nth put all_to sum_to least_from fill full
-last_open = opens on_two tasks (of_three 2 2 5 3 3 6) (2 ∷ (1 ∷ (3 ∷ []))) (lit≤ tt) refl
+last_open = opens two tasks (of_three 2 2 5 3 3 6) (2 ∷ (1 ∷ (3 ∷ []))) (lit≤ tt) refl
 
-pub last_order : assigned response on_two tasks (of_three 2 2 5 2 2 5) ≡ Some (2 ∷ (1 ∷ (3 ∷ [])))
+pub last_order : assigned (rta 2) tasks (of_three 2 2 5 2 2 5) ≡ Some (2 ∷ (1 ∷ (3 ∷ [])))
 unfolding nth put all_to sum_to least_from fill full
 last_order = refl
 
@@ -74,31 +81,31 @@ pub last_inside : withinb tasks (of_three 2 2 5 2 2 5) ≡ true
 unfolding nth all_to
 last_inside = refl
 
-pub last_lows_open : Open response on_two tasks (of_three 2 2 5 2 2 5)
+pub last_lows_open : Open (rta 2) tasks (of_three 2 2 5 2 2 5)
 unfolding nth all_to
-last_lows_open = opens on_two tasks (of_three 2 2 5 2 2 5) _ (lit≤ tt) last_order
+last_lows_open = opens two tasks (of_three 2 2 5 2 2 5) _ (lit≤ tt) last_order
 
 -- the two rows
-pub both_closed : Closed response on_one pair both
+pub both_closed : Closed (rta 1) pair both
 unfolding nth put all_to sum_to least_from fill full
-both_closed = shut on_one pair both (lit≤ tt) refl
+both_closed = shut one pair both (lit≤ tt) refl
 
-pub both_lows_closed : Closed response on_one pair (record { lows = both.lows; highs = both.lows })
+pub both_lows_closed : Closed (rta 1) pair (record { lows = both.lows; highs = both.lows })
 unfolding nth put all_to sum_to least_from fill full
-both_lows_closed = shut on_one pair (record { lows = both.lows; highs = both.lows }) (lit≤ tt) refl
+both_lows_closed = shut one pair (record { lows = both.lows; highs = both.lows }) (lit≤ tt) refl
 
 -- the one row
 abbrev pub five : Range
 five = record { lows = padded (5 ∷ []); highs = padded (5 ∷ []) }
 
-pub lone_order : (t : Rta) → assigned response t lone five ≡ Some (1 ∷ [])
+pub lone_order : (p : Processors) → assigned (rta p.count) lone five ≡ Some (1 ∷ [])
 unfolding nth put all_to sum_to least_from fill full
-lone_order t = rw (zero-div t.processors.count) refl
+lone_order p = rw (zero-div p.count) refl
 
 pub lone_inside : withinb lone five ≡ true
 unfolding nth all_to
 lone_inside = refl
 
-pub lone_open : (t : Rta) → Open response t lone five
+pub lone_open : (p : Processors) → Open (rta p.count) lone five
 unfolding nth all_to
-lone_open t = opens t lone five _ (lit≤ tt) (lone_order t)
+lone_open p = opens p lone five _ (lit≤ tt) (lone_order p)

@@ -3,7 +3,8 @@ use Rattle.std.specs.Prelude.{◌≡◌, ℕ, Bool, true, false, List, [], ◌�
 use Rattle.std.proofs.Common.{lit≤}
 use Rattle.table.specs.declared.row.Row.{Row}
 use Rattle.table.specs.Places.{put}
-use Rattle.bounds.specs.declared.rta.Rta.{Rta}
+use Rattle.bounds.specs.declared.processors.Processors.{Processors}
+use Rattle.bounds.specs.Questions.{Asked}
 use Rattle.bounds.specs.Loads.{work, da}
 use Rattle.bounds.specs.Orders.{wcets, padded}
 use Rattle.bounds.specs.Overheads.{over}
@@ -40,9 +41,13 @@ a_and_b = put only_a 2 true
 abbrev pub Work : Type 0
 Work = (work a 4 ≡ 2) × (work a 5 ≡ 2) × (work a 6 ≡ 3) × (work a 7 ≡ 4)
 
+-- a question about c: the tasks above, and the estimates
+abbrev pub of_c : List Bool → List ℕ → Asked
+of_c above estimates = record { rows = tasks; task = 3; above = above; estimates = estimates }
+
 -- da of c: late with a and b above, 5 with only a
 abbrev pub DeadlineAnalysis : Type 0
-DeadlineAnalysis = (da 2 tasks 3 a_and_b (wcets tasks) ≡ None) × (da 2 tasks 3 only_a (wcets tasks) ≡ Some 5)
+DeadlineAnalysis = (da 2 (of_c a_and_b (wcets tasks)) ≡ None) × (da 2 (of_c only_a (wcets tasks)) ≡ Some 5)
 
 -- estimates of a and b, with c's own C
 abbrev pub estimates : ℕ → ℕ → List ℕ
@@ -50,33 +55,22 @@ estimates x y = padded (x ∷ (y ∷ (3 ∷ [])))
 
 -- rta of c with a and b above: 5 with the estimates 2 and 2, and with 2 and 3; late with 3 and 3
 abbrev pub ResponseAnalysis : Type 0
-ResponseAnalysis = (rta 2 tasks 3 a_and_b (estimates 2 2) ≡ Some 5) × (rta 2 tasks 3 a_and_b (estimates 2 3) ≡ Some 5) × (rta 2 tasks 3 a_and_b (estimates 3 3) ≡ None)
+ResponseAnalysis =
+    (rta 2 (of_c a_and_b (estimates 2 2)) ≡ Some 5) × (rta 2 (of_c a_and_b (estimates 2 3)) ≡ Some 5) × (rta 2 (of_c a_and_b (estimates 3 3)) ≡ None)
 
 -- lc of c with a and b above: 5 with the estimates 5 and 5
 abbrev pub LimitedAnalysis : Type 0
-LimitedAnalysis = lc 2 tasks 3 a_and_b (estimates 5 5) ≡ Some 5
+LimitedAnalysis = lc 2 (of_c a_and_b (estimates 5 5)) ≡ Some 5
 
 -- the answer for c under an overhead, from the answer below it
 abbrev pub under : ℕ → Option ℕ → Option ℕ
-under v below = over v tasks 3 below
+under v below = over v c below
 
 -- rta of c with a and b above and the estimates 2 and 2: an overhead of 1 gives 6, of 2 late, of 1 over 1 late, of 1 over 0 gives 6
 abbrev pub Overheads : Type 0
 Overheads =
-    (under 1 (rta 2 tasks 3 a_and_b (estimates 2 2)) ≡ Some 6) × (under 2 (rta 2 tasks 3 a_and_b (estimates 2 2)) ≡ None)
-    × (under 1 (under 1 (rta 2 tasks 3 a_and_b (estimates 2 2))) ≡ None) × (under 1 (under 0 (rta 2 tasks 3 a_and_b (estimates 2 2))) ≡ Some 6)
-
--- the answers of rta, as a test on a number of processors
-abbrev pub response : Rta → List Row → ℕ → List Bool → List ℕ → Option ℕ
-response t = rta t.processors.count
-
--- rta on 2 processors
-abbrev pub on_two : Rta
-on_two = record { processors = record { count = 2; ok = (lit≤ tt, lit≤ tt) } }
-
--- rta on 1 processor
-abbrev pub on_one : Rta
-on_one = record { processors = record { count = 1; ok = (lit≤ tt, lit≤ tt) } }
+    (under 1 (rta 2 (of_c a_and_b (estimates 2 2))) ≡ Some 6) × (under 2 (rta 2 (of_c a_and_b (estimates 2 2))) ≡ None)
+    × (under 1 (under 1 (rta 2 (of_c a_and_b (estimates 2 2)))) ≡ None) × (under 1 (under 0 (rta 2 (of_c a_and_b (estimates 2 2)))) ≡ Some 6)
 
 -- the range of a from 2 to 3, b from 2 to 3, and c from 3 to a high
 abbrev pub ranged : ℕ → Range
@@ -84,7 +78,7 @@ ranged high = record { lows = estimates 2 2; highs = padded (3 ∷ (3 ∷ (high 
 
 -- under rta it is closed with c from 3 to 4, and open with c from 3 to 5
 abbrev pub Ranged : Type 0
-Ranged = Closed response on_two tasks (ranged 4) × Open response on_two tasks (ranged 5)
+Ranged = Closed (rta 2) tasks (ranged 4) × Open (rta 2) tasks (ranged 5)
 
 -- the ledger has one range, this one
 abbrev pub LedgerIs : Range → Moment → Type 0
@@ -93,8 +87,8 @@ LedgerIs r m = (m.study.ledger ≡ 1) × (slot m.ledger 1 ≡ r)
 -- a search of the tasks under rta: the first step writes the closed range to the ledger and leaves three pending, and the second finds the order b, a, c for the estimates a 2, b 2, c 5
 abbrev pub FoundAfterSplit : Type 0
 FoundAfterSplit =
-    BeginsTo tasks 1 3 (λ begun. StepsTo response on_two begun
-    (λ split. LedgerIs (ranged 4) split × (split.study.pending ≡ 3) × StepsTo response on_two split
+    BeginsTo tasks 1 3 (λ begun. StepsTo (rta 2) begun
+    (λ split. LedgerIs (ranged 4) split × (split.study.pending ≡ 3) × StepsTo (rta 2) split
     (λ found. (f : Finding) × (found.study.state ≡ state.Found f) × (take 3 f.order ≡ 2 ∷ (1 ∷ (3 ∷ []))) × (f.estimates ≡ padded (2 ∷ (2 ∷ (5 ∷ [])))))))
 
 -- a row 2/3/3
@@ -112,8 +106,8 @@ both = record { lows = padded (2 ∷ (2 ∷ [])); highs = padded (3 ∷ (3 ∷ [
 -- a search of the two rows under rta on 1 processor: the first step keeps the range with both from 2 to 3, and the second says none
 abbrev pub NoneAfterKept : Type 0
 NoneAfterKept =
-    BeginsTo pair 1 1 (λ begun. StepsTo response on_one begun
-    (λ kept. LedgerIs both kept × StepsTo response on_one kept (λ ended. ended.study.state ≡ state.None)))
+    BeginsTo pair 1 1 (λ begun. StepsTo (rta 1) begun
+    (λ kept. LedgerIs both kept × StepsTo (rta 1) kept (λ ended. ended.study.state ≡ state.None)))
 
 -- one row 5/5/5
 abbrev pub lone : List Row
@@ -121,7 +115,7 @@ lone = record { wcet = 5; period = 5; deadline = 5; ok = (lit≤ tt, lit≤ tt, 
 
 -- a search of the one row under rta, on however many processors: the first step finds its order, and no range is in the ledger
 abbrev pub FoundAtOnce : Type 0
-FoundAtOnce = (t : Rta) → BeginsTo lone 1 1 (λ begun. StepsTo response t begun (λ found. (f : Finding) × (found.study.state ≡ state.Found f) × (take 1 f.order ≡ 1 ∷ []) × (found.study.ledger ≡ 0)))
+FoundAtOnce = (p : Processors) → BeginsTo lone 1 1 (λ begun. StepsTo (rta p.count) begun (λ found. (f : Finding) × (found.study.state ≡ state.Found f) × (take 1 f.order ≡ 1 ∷ []) × (found.study.ledger ≡ 0)))
 
 -- all worked examples
 abbrev pub WorkedExamples : Type 0

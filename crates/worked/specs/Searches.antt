@@ -2,6 +2,7 @@
 use Rattle.std.specs.Prelude.{◌≡◌, ℕ, ◌≤◌, Bool, List, Ok, Result, Option}
 use Rattle.table.specs.declared.row.Row.{Row}
 use Rattle.table.specs.declared.fault.Fault.{Fault}
+use Rattle.bounds.specs.Questions.{Meaning}
 use Rattle.study.specs.declared.room.Room.{Room}
 use Rattle.study.specs.Moments.{Moment, rows_of}
 use Rattle.study.specs.Begins.{HasRoom, Begins}
@@ -13,5 +14,5 @@ BeginsTo rows ledger pending Said =
     (before after : Moment) (room : Room) (r : Result (Unit {0}) Fault) → rows_of before ≡ rows → HasRoom room before → ledger ≤ room.ledger → pending ≤ room.pending → Begins before r after → (r ≡ Ok tt) × Said after
 
 -- from this moment a step is accepted, and this is so of what it leaves
-abbrev pub StepsTo : {T : Type 0} → (T → List Row → ℕ → List Bool → List ℕ → Option ℕ) → T → Moment → (Moment → Type 0) → Type 0
-StepsTo answer t before Said = (r : Result (Unit {0}) Fault) (after : Moment) → Steps answer t before r after → (r ≡ Ok tt) × Said after
+abbrev pub StepsTo : Meaning → Moment → (Moment → Type 0) → Type 0
+StepsTo meaning before Said = (r : Result (Unit {0}) Fault) (after : Moment) → Steps meaning before r after → (r ≡ Ok tt) × Said after

@@ -6,9 +6,9 @@ use Rattle.worked.proofs.worked_table.Goals as goal
 
 pub returns : goal.returns
 returns c =
-    let one = added c.new-table.result _ [] a _ c.new-table.ensures (lit< tt) c.add.ensures in
-    let two = added c.add.new.self _ (a ∷ []) a _ one (lit< tt) c.add-2.ensures in
-    let three = added c.add-2.new.self _ (a ∷ (a ∷ [])) third _ two (lit< tt) c.add-3.ensures in
+    let one = added c.new-table.result _ [] a _ _ c.of.ensures c.new-table.ensures (lit< tt) c.add.ensures in
+    let two = added c.add.new.self _ (a ∷ []) a _ _ c.of-2.ensures one (lit< tt) c.add-2.ensures in
+    let three = added c.add-2.new.self _ (a ∷ (a ∷ [])) third _ _ c.of-3.ensures two (lit< tt) c.add-3.ensures in
     record { rows = (_, refl, three); examples = shown }
 
 pub returns-in_err-add-3-clause-examples : goal.returns-in_err-add-3-clause-examples

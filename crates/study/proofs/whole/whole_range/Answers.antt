@@ -1,8 +1,8 @@
 use Rattle.std.proofs.Common.{rules, ℕ, List, ap₂}
 use Rattle.orders.specs.declared.range.Range.{Range}
 use Rattle.bounds.proofs.Padded.{padded_made}
-use Rattle.study.specs.Begins.{deadlines}
-use Rattle.study.proofs.study.begin.whole_range.Goals as goal
+use Rattle.study.specs.Whole.{deadlines}
+use Rattle.study.proofs.whole.whole_range.Goals as goal
 
 pub returns : goal.returns
 returns c =

@@ -1,7 +1,7 @@
 use Rattle.std.proofs.Common.{IfNone, sym, subst}
 use Rattle.study.specs.declared.room.Room.{Room}
 use Rattle.study.specs.Slots.{HasSlots}
-use Rattle.study.proofs.study.begin.room_in.Goals as goal
+use Rattle.study.proofs.room.Room.of.Goals as goal
 
 pub returns-in_err-slots_in-clause-none : goal.returns-in_err-slots_in-clause-none
 returns-in_err-slots_in-clause-none c =
