@@ -12,7 +12,7 @@ use sheets::sheet::Sheet;
 pub(crate) fn field<'a>(sheet: &Sheet<'a>, k: usize, column: Column) -> Field<'a>
     requires { HasField sheet.now k column }
     ensures bytes { result.bytes.now ≡ field_of sheet.now k column }
-    ensures place { result.place ≡ place sheet.now.form (k + 1) (left_of sheet.now column + 1) }
+    ensures place { result.place ≡ place sheet.now.number (k + 1) (left_of sheet.now column + 1) }
 {
     sheet.field(k, column).unwrap()
 }

@@ -36,18 +36,12 @@ columns_of Board = Processors ∷ Overhead ∷ Test ∷ []
 columns_of Tasks = Task ∷ Wcet ∷ Period ∷ Deadline ∷ []
 columns_of Answer = Task ∷ Estimate ∷ []
 
--- the number of a sheet of a form
-abbrev pub sheet_of : Form → ℕ
-sheet_of Board = 1
-sheet_of Tasks = 2
-sheet_of Answer = 3
-
 -- the most value lines that a sheet of a form may have; the least is 1
 abbrev pub most_of : Form → ℕ
 most_of Board = 1
 most_of Tasks = 32
 most_of Answer = 32
 
--- a place on a sheet of a form
-abbrev pub place : Form → ℕ → ℕ → Place
-place form line field = record { sheet = sheet_of form; line = line; field = field }
+-- a place on a sheet
+abbrev pub place : ℕ → ℕ → ℕ → Place
+place sheet line field = record { sheet = sheet; line = line; field = field }

@@ -18,17 +18,17 @@ abbrev pub Fits : List Column → List (List ℕ) → Type 0
 Fits columns fields = (length fields ≡ length columns) × ((j : ℕ) → j < length columns → FitsAt columns fields j)
 
 -- the fault is the first of a line with these fields
-abbrev pub Misses : Form → List Column → ℕ → List (List ℕ) → Fault → Type 0
-Misses form columns line fields fault =
-    ((length fields ≡ length columns → ⊥) × (fault ≡ BadFieldCount (place form line 0)))
-    ⊎ ((length fields ≡ length columns) × (j : ℕ) × (fault ≡ BadField (place form line (j + 1))) × (j < length columns) × ((i : ℕ) → i < j → FitsAt columns fields i) × (FitsAt columns fields j → ⊥))
+abbrev pub Misses : ℕ → List Column → ℕ → List (List ℕ) → Fault → Type 0
+Misses number columns line fields fault =
+    ((length fields ≡ length columns → ⊥) × (fault ≡ BadFieldCount (place number line 0)))
+    ⊎ ((length fields ≡ length columns) × (j : ℕ) × (fault ≡ BadField (place number line (j + 1))) × (j < length columns) × ((i : ℕ) → i < j → FitsAt columns fields i) × (FitsAt columns fields j → ⊥))
 
 -- the first n value lines miss nothing
 abbrev pub FirstFit : List Column → List (List ℕ) → ℕ → Type 0
 FirstFit columns lines n = (i : ℕ) → i < n → Fits columns (parts 32 (slice_index_or lines i []))
 
 -- the fault is the first of these value lines, which begin with line 2
-abbrev pub LinesMiss : Form → List Column → List (List ℕ) → Fault → Type 0
-LinesMiss form columns lines fault =
-    ((i : ℕ) × (i < length lines) × FirstFit columns lines i × Misses form columns (i + 2) (parts 32 (slice_index_or lines i [])) fault)
-    ⊎ (FirstFit columns lines (length lines) × (AllowedCount form (length lines) → ⊥) × (fault ≡ BadLineCount (place form (if length lines == 0 then 1 else most_of form + 2) 0)))
+abbrev pub LinesMiss : Form → ℕ → List Column → List (List ℕ) → Fault → Type 0
+LinesMiss form number columns lines fault =
+    ((i : ℕ) × (i < length lines) × FirstFit columns lines i × Misses number columns (i + 2) (parts 32 (slice_index_or lines i [])) fault)
+    ⊎ (FirstFit columns lines (length lines) × (AllowedCount form (length lines) → ⊥) × (fault ≡ BadLineCount (place number (if length lines == 0 then 1 else most_of form + 2) 0)))

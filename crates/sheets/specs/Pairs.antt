@@ -19,7 +19,7 @@ task_of s k = field_of s k Task
 
 -- the place of the name in the k-th value line
 abbrev pub name_place : Sheet → ℕ → Place
-name_place s k = place s.form (k + 1) (left_of s Task + 1)
+name_place s k = place s.number (k + 1) (left_of s Task + 1)
 
 -- question 6: the name of the k-th value line stands in no earlier one
 abbrev pub IsNewName : Sheet → ℕ → Type 0
@@ -53,7 +53,7 @@ FirstLine question n k = (1 ≤ k) × (k ≤ n) × (question k → ⊥) × ((i :
 abbrev pub PairMisses : Sheet → Sheet → Fault → Type 0
 PairMisses tasks answer (RepeatedTask p) = (k : ℕ) × (p ≡ name_place tasks k) × FirstLine (IsNewName tasks) (count_of tasks) k
 PairMisses tasks answer (BadAnswer p) = EachLine (IsNewName tasks) (count_of tasks) × ((k : ℕ) × (p ≡ name_place answer k) × FirstLine (Answers tasks answer) (count_of answer) k)
-PairMisses tasks answer (NoAnswer p) = EachLine (IsNewName tasks) (count_of tasks) × EachLine (Answers tasks answer) (count_of answer) × ((k : ℕ) × (p ≡ place tasks.form (k + 1) 0) × FirstLine (IsAnswered tasks answer) (count_of tasks) k)
+PairMisses tasks answer (NoAnswer p) = EachLine (IsNewName tasks) (count_of tasks) × EachLine (Answers tasks answer) (count_of answer) × ((k : ℕ) × (p ≡ place tasks.number (k + 1) 0) × FirstLine (IsAnswered tasks answer) (count_of tasks) k)
 PairMisses tasks answer fault = ⊥
 
 -- a list has in its k-th place the row that the k-th value line of the answer names; 0 past the last one

@@ -56,17 +56,17 @@ abbrev pub line_at_fault : Form → List (List (List ℕ)) → ℕ
 line_at_fault form lines = if length lines == 1 then 1 else most_of form + 2
 
 -- in a text of these lines the fault's question, one of 2 to 5, is missed at the fault's place
-abbrev pub MissedIn : Form → List (List (List ℕ)) → Fault → Type 0
-MissedIn form lines (BadNames p) = (p ≡ place form 1 0) × (HasNames form (nth lines 1 []) → ⊥)
-MissedIn form lines (BadFieldCount p) = (k : ℕ) × (p ≡ place form k 0) × IsValueLine lines k × (SameCount lines k → ⊥)
-MissedIn form lines (BadField p) = (k j : ℕ) × (p ≡ place form k j) × IsValueLine lines k × (1 ≤ j) × (j ≤ length (nth lines k [])) × (Conforms lines k j → ⊥)
-MissedIn form lines (BadLineCount p) = (p ≡ place form (line_at_fault form lines) 0) × (AllowedCount form (length lines - 1) → ⊥)
-MissedIn form lines fault = ⊥
+abbrev pub MissedIn : Form → ℕ → List (List (List ℕ)) → Fault → Type 0
+MissedIn form number lines (BadNames p) = (p ≡ place number 1 0) × (HasNames form (nth lines 1 []) → ⊥)
+MissedIn form number lines (BadFieldCount p) = (k : ℕ) × (p ≡ place number k 0) × IsValueLine lines k × (SameCount lines k → ⊥)
+MissedIn form number lines (BadField p) = (k j : ℕ) × (p ≡ place number k j) × IsValueLine lines k × (1 ≤ j) × (j ≤ length (nth lines k [])) × (Conforms lines k j → ⊥)
+MissedIn form number lines (BadLineCount p) = (p ≡ place number (line_at_fault form lines) 0) × (AllowedCount form (length lines - 1) → ⊥)
+MissedIn form number lines fault = ⊥
 
 -- the fault's question, one of 1 to 5, is missed at the fault's place
-abbrev pub Missed : Form → List ℕ → Fault → Type 0
-Missed form text (BadText p) = (p ≡ place form 0 0) × (IsSized text → ⊥)
-Missed form text fault = (lines : List (List (List ℕ))) × IsText text lines × MissedIn form lines fault
+abbrev pub Missed : Form → ℕ → List ℕ → Fault → Type 0
+Missed form number text (BadText p) = (p ≡ place number 0 0) × (IsSized text → ⊥)
+Missed form number text fault = (lines : List (List (List ℕ))) × IsText text lines × MissedIn form number lines fault
 
 -- 1 for question 5, which is asked when all lines are read; 0 for the others
 abbrev pub is_last : Fault → ℕ
@@ -80,8 +80,8 @@ Before f g =
     ⊎ ((is_last f ≡ is_last g) × (((place_of f).line < (place_of g).line) ⊎ (((place_of f).line ≡ (place_of g).line) × ((place_of f).field < (place_of g).field))))
 
 -- the fault is the first of a text: its question is missed at its place, and no fault that comes before is missed
-abbrev pub IsFirst : Form → List ℕ → Fault → Type 0
-IsFirst form text fault = Missed form text fault × ((other : Fault) → Before other fault → Missed form text other → ⊥)
+abbrev pub IsFirst : Form → ℕ → List ℕ → Fault → Type 0
+IsFirst form number text fault = Missed form number text fault × ((other : Fault) → Before other fault → Missed form number text other → ⊥)
 
 -- A text is a sheet of a form, of these lines and with its columns in this order: no question is missed.
 pub record IsSheet (form : Form) (text : List ℕ) (lines : List (List (List ℕ))) (columns : List Column) : Type 0 where

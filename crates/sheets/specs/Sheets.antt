@@ -39,12 +39,12 @@ field_of s k c = nth (nth (values_of s) k []) (left_of s c + 1) []
 abbrev pub IsFull : Sheet → Type 0
 IsFull s = (k : ℕ) (c : Column) → 1 ≤ k → k ≤ length (values_of s) → Contains (columns_of s.form) c → HasField s k c × IsOfKind (kind_of c) (field_of s k c)
 
--- the sheet has this form, its columns in this order, and all of these lines but line 1 as its value lines
-abbrev pub Shows : Form → List (List (List ℕ)) → List Column → Sheet → Type 0
-Shows form lines columns s = (s.form ≡ form) × (columns_in s ≡ columns) × (values_of s ≡ drop 1 lines)
+-- the sheet has this form and number, its columns in this order, and all of these lines but line 1 as its value lines
+abbrev pub Shows : Form → ℕ → List (List (List ℕ)) → List Column → Sheet → Type 0
+Shows form number lines columns s = (s.form ≡ form) × (s.number ≡ number) × (columns_in s ≡ columns) × (values_of s ≡ drop 1 lines)
 
 -- reading a text: the sheet that it is, or the first fault
-abbrev pub ReadsText : Form → List ℕ → Result Sheet Fault → Type 0
-ReadsText form text r =
-    MatchResult r (λ s. (lines : List (List (List ℕ))) × (columns : List Column) × IsSheet form text lines columns × Shows form lines columns s)
-    (λ fault. IsFirst form text fault)
+abbrev pub ReadsText : Form → ℕ → List ℕ → Result Sheet Fault → Type 0
+ReadsText form number text r =
+    MatchResult r (λ s. (lines : List (List (List ℕ))) × (columns : List Column) × IsSheet form text lines columns × Shows form number lines columns s)
+    (λ fault. IsFirst form number text fault)

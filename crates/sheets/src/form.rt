@@ -2,7 +2,7 @@
 ghost use Rattle.std.specs.Prelude.{◌≡◌, ◌≢◌, MatchOption};
 ghost use Rattle.std.specs.Str.{bytes_eq};
 ghost use Rattle.sheets.specs.declared.form.Column.{Column};
-ghost use Rattle.sheets.specs.Forms.{name_of, kind_of, columns_of, sheet_of, most_of, place};
+ghost use Rattle.sheets.specs.Forms.{name_of, kind_of, columns_of, most_of, place};
 
 use table::fault::Place;
 
@@ -107,17 +107,6 @@ impl Column {
 }
 
 impl Form {
-    /// The number of the sheet.
-    pub(crate) fn sheet(self) -> u32
-        ensures { result ≡ sheet_of self }
-    {
-        match self {
-            Form::Board => 1,
-            Form::Tasks => 2,
-            Form::Answer => 3,
-        }
-    }
-
     /// Its columns.
     pub(crate) fn columns(self) -> &'static [Column]
         ensures { result.now ≡ columns_of self }
@@ -138,15 +127,11 @@ impl Form {
             Form::Tasks | Form::Answer => 32,
         }
     }
+}
 
-    /// A place on a sheet of the form.
-    pub(crate) fn place(self, line: u32, field: u32) -> Place
-        ensures { result ≡ place self line field }
-    {
-        Place {
-            sheet: self.sheet(),
-            line,
-            field,
-        }
-    }
+/// A place on a sheet.
+pub(crate) fn place(sheet: u32, line: u32, field: u32) -> Place
+    ensures { result ≡ place sheet line field }
+{
+    Place { sheet, line, field }
 }

@@ -5,7 +5,7 @@ ghost use Rattle.sheets.specs.Reading.{IsOfKind};
 ghost use Rattle.sheets.specs.Lines.{FitsAt, Fits, Misses};
 
 use crate::field::{is_name, number};
-use crate::form::{Column, Form, Kind};
+use crate::form::{Column, Kind, place};
 use crate::reader::{Part, Reader};
 use table::fault::Fault;
 
@@ -46,16 +46,16 @@ fn first_misfit(columns: &[Column], line: &[u8]) -> Option<u32>
 }
 
 /// Asks of a value line whether it has as many fields as columns, and each the form of its kind.
-pub(crate) fn ask_line(form: Form, columns: &[Column], line: Part<'_>) -> Result<(), Fault>
+pub(crate) fn ask_line(sheet: u32, columns: &[Column], line: Part<'_>) -> Result<(), Fault>
     requires { length line.bytes.now ≤ 4096 }
-    ensures { MatchResult result (λ _. Fits columns.now (parts 32 line.entry.bytes.now)) (λ fault. Misses form columns.now line.entry.number (parts 32 line.entry.bytes.now) fault) }
+    ensures { MatchResult result (λ _. Fits columns.now (parts 32 line.entry.bytes.now)) (λ fault. Misses sheet columns.now line.entry.number (parts 32 line.entry.bytes.now) fault) }
 {
     if count_fields(line.bytes) != columns.len() {
-        return Err(Fault::BadFieldCount(form.place(line.number, 0)));
+        return Err(Fault::BadFieldCount(place(sheet, line.number, 0)));
     }
     match first_misfit(columns, line.bytes) {
         None => Ok(()),
-        Some(field) => Err(Fault::BadField(form.place(line.number, field))),
+        Some(field) => Err(Fault::BadField(place(sheet, line.number, field))),
     }
 }
 

@@ -41,7 +41,7 @@ fn rows_named(tasks: &Sheet<'_>, answer: &Sheet<'_>) -> Result<[usize; 32], Faul
 
 // Asks whether each task stands on the answer sheet.
 fn ask_answered(tasks: &Sheet<'_>, answer: &Sheet<'_>) -> Result<(), Fault>
-    ensures { MatchResult result (λ _. EachLine (IsAnswered tasks.now answer.now) (count_of tasks.now)) (λ fault. (k : _) × (fault ≡ Fault.NoAnswer (place tasks.now.form (k + 1) 0)) × FirstLine (IsAnswered tasks.now answer.now) (count_of tasks.now) k) }
+    ensures { MatchResult result (λ _. EachLine (IsAnswered tasks.now answer.now) (count_of tasks.now)) (λ fault. (k : _) × (fault ≡ Fault.NoAnswer (place tasks.now.number (k + 1) 0)) × FirstLine (IsAnswered tasks.now answer.now) (count_of tasks.now) k) }
 {
     for i in 0..tasks.len() {
         if answer

@@ -10,6 +10,7 @@ use crate::form::{Column, Form, MOST_COLUMNS};
 #[derive(Drop)]
 pub struct Sheet<'a> {
     form: Form,
+    number: u32,
     // From left to right; past the last column a filler.
     columns: [Column; MOST_COLUMNS],
     lines: [&'a [u8]; 32],

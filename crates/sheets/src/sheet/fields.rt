@@ -7,7 +7,7 @@ ghost use Rattle.sheets.specs.Pairs.{task_of};
 
 use super::Sheet;
 use crate::field::Field;
-use crate::form::Column;
+use crate::form::{Column, place};
 use crate::line::field_at;
 use table::fault::Place;
 
@@ -59,13 +59,13 @@ impl<'a> Sheet<'a> {
 
     /// The field under a column in the k-th value line.
     pub fn field(&self, k: usize, column: Column) -> Option<Field<'a>>
-        ensures { MatchOption result (HasField self.now k column → ⊥) (λ f. HasField self.now k column × (f.bytes.now ≡ field_of self.now k column) × (f.place ≡ place self.now.form (k + 1) (left_of self.now column + 1))) }
+        ensures { MatchOption result (HasField self.now k column → ⊥) (λ f. HasField self.now k column × (f.bytes.now ≡ field_of self.now k column) × (f.place ≡ place self.now.number (k + 1) (left_of self.now column + 1))) }
     {
         let line = self.line(k)?;
         let part = field_at(line, self.left_of(column))?;
         Some(Field {
             bytes: part.bytes,
-            place: self.form.place(k as u32 + 1, part.number),
+            place: place(self.number, k as u32 + 1, part.number),
         })
     }
 
@@ -73,11 +73,13 @@ impl<'a> Sheet<'a> {
     pub(crate) fn name(&self, k: usize) -> Field<'a>
         requires { k ≤ 32 }
         ensures name { result.bytes.now ≡ task_of self.now k }
-        ensures place { result.place ≡ place self.now.form (k + 1) (left_of self.now Column.Task + 1) }
+        ensures place { result.place ≡ place self.now.number (k + 1) (left_of self.now Column.Task + 1) }
     {
-        let place = self
-            .form
-            .place(k as u32 + 1, self.left_of(Column::Task) as u32 + 1);
+        let place = place(
+            self.number,
+            k as u32 + 1,
+            self.left_of(Column::Task) as u32 + 1,
+        );
         match self.field(k, Column::Task) {
             Some(field) => field,
             None => Field { bytes: &[], place },
@@ -100,8 +102,8 @@ impl<'a> Sheet<'a> {
     // The place of the k-th value line.
     pub(crate) fn line_place(&self, k: usize) -> Place
         requires { k ≤ 32 }
-        ensures { result ≡ place self.now.form (k + 1) 0 }
+        ensures { result ≡ place self.now.number (k + 1) 0 }
     {
-        self.form.place(k as u32 + 1, 0)
+        place(self.number, k as u32 + 1, 0)
     }
 }

@@ -9,7 +9,7 @@ ghost use Rattle.sheets.specs.Texts.{IsText};
 ghost use Rattle.sheets.specs.Sheets.{lines_of, IsFull, ReadsText};
 
 use super::Sheet;
-use crate::form::{Column, Form, MOST_COLUMNS};
+use crate::form::{Column, Form, MOST_COLUMNS, place};
 use crate::heading::next_columns;
 use crate::line::ask_line;
 use crate::reader::Reader;
@@ -21,34 +21,36 @@ const LONGEST: usize = 4096;
 // The value lines: line by line what each is asked, then how many they are.
 fn read_values<'a>(
     form: Form,
+    number: u32,
     given: [Column; MOST_COLUMNS],
     mut lines: Reader<'a>,
 ) -> Result<Sheet<'a>, Fault>
     requires { lines.number ≡ 1 }
     ensures { MatchResult result
-        (λ s. (s.form ≡ form) × (s.columns ≡ given) × (lines_of s ≡ left lines.entry)
+        (λ s. (s.form ≡ form) × (s.number ≡ number) × (s.columns ≡ given) × (lines_of s ≡ left lines.entry)
         × FirstFit (take (length (columns_of form)) given) (left lines.entry) (length (left lines.entry))
         × AllowedCount form (length (left lines.entry)))
-        (λ fault. LinesMiss form (take (length (columns_of form)) given) (left lines.entry) fault) }
+        (λ fault. LinesMiss form number (take (length (columns_of form)) given) (left lines.entry) fault) }
 {
     let columns = &given[..form.columns().len()];
     let mut kept: [&'a [u8]; 32] = [&[]; 32];
     let mut len = 0;
     while let Some(line) = lines.next() {
-        ask_line(form, columns, line)?;
+        ask_line(number, columns, line)?;
         if len < kept.len() {
             kept[len] = line.bytes;
         }
         len += 1;
     }
     if len == 0 {
-        return Err(Fault::BadLineCount(form.place(1, 0)));
+        return Err(Fault::BadLineCount(place(number, 1, 0)));
     }
     if len > form.most() {
-        return Err(Fault::BadLineCount(form.place(form.most() as u32 + 2, 0)));
+        return Err(Fault::BadLineCount(place(number, form.most() as u32 + 2, 0)));
     }
     Ok(Sheet {
         form,
+        number,
         columns: given,
         lines: kept,
         len,
@@ -68,31 +70,31 @@ fn body_of(text: &[u8]) -> Option<&[u8]>
 }
 
 // Asks the questions of a text, the first one first.
-fn read_text<'a>(form: Form, text: &'a [u8]) -> Result<Sheet<'a>, Fault>
-    ensures { ReadsText form text.now result }
+fn read_text<'a>(form: Form, number: u32, text: &'a [u8]) -> Result<Sheet<'a>, Fault>
+    ensures { ReadsText form number text.now result }
 {
     let Some(body) = body_of(text) else {
-        return Err(Fault::BadText(form.place(0, 0)));
+        return Err(Fault::BadText(place(number, 0, 0)));
     };
     let mut lines = Reader::new(body, b'\n');
     match next_columns(form, &mut lines) {
-        Some(columns) => read_values(form, columns, lines),
-        None => Err(Fault::BadNames(form.place(1, 0))),
+        Some(columns) => read_values(form, number, columns, lines),
+        None => Err(Fault::BadNames(place(number, 1, 0))),
     }
 }
 
 impl<'a> Sheet<'a> {
-    /// Reads a text as a sheet of the form.
-    pub fn read(form: Form, text: &'a [u8]) -> Result<Sheet<'a>, Fault>
-        ensures read { ReadsText form text.now result }
+    /// Reads a text as a sheet of the form, with this number.
+    pub fn read(form: Form, number: u32, text: &'a [u8]) -> Result<Sheet<'a>, Fault>
+        ensures read { ReadsText form number text.now result }
         ensures full { IfOk result IsFull }
         // What is a sheet is read, so a fault is given only for what is none.
         ensures whole { (lines : List (List (List ℕ))) (columns : _) → IsSheet form text.now lines columns → IsOk result }
         // A text is of no other lines.
         ensures one { (lines others : List (List (List ℕ))) → IsText text.now lines → IsText text.now others → lines ≡ others }
         // It has no other first fault.
-        ensures first { (f g : Fault) → IsFirst form text.now f → IsFirst form text.now g → f ≡ g }
+        ensures first { (f g : Fault) → IsFirst form number text.now f → IsFirst form number text.now g → f ≡ g }
     {
-        read_text(form, text)
+        read_text(form, number, text)
     }
 }
