@@ -4,9 +4,7 @@ ghost use Rattle.sheets.specs.Forms.{place};
 ghost use Rattle.sheets.specs.Sheets.{left_of, HasField, field_of};
 ghost use Rattle.marking.specs.Questions.{number_under, HasNumber};
 
-use sheets::field::Field;
-use sheets::form::Column;
-use sheets::sheet::Sheet;
+use sheets::{Column, Field, Sheet};
 
 /// The field under a column in the k-th value line.
 pub(crate) fn field<'a>(sheet: &Sheet<'a>, k: usize, column: Column) -> Field<'a>

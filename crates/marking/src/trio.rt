@@ -4,8 +4,7 @@ ghost use Rattle.sheets.specs.Sheets.{IsFull};
 ghost use Rattle.marking.specs.Questions.{TextsMiss};
 ghost use Rattle.marking.specs.Reports.{Read};
 
-use sheets::form::Form;
-use sheets::sheet::Sheet;
+use sheets::{Form, Sheet};
 use table::fault::Fault;
 
 /// A board, its tasks and an answer.

@@ -1,6 +1,6 @@
 -- What reading gives, from what its parts give.
 use Rattle.std.proofs.Common.{◌≡◌, ℕ, ◌≤◌, List, [], ◌∷◌, map, length, take, Result, Ok, Err, refl, sym, ap, subst, ◌∙◌, arith}
-use Rattle.std.specs.Result.{MatchResult, IsOk}
+use Rattle.std.specs.Result.{IsOk}
 use Rattle.table.specs.declared.fault.Fault.{Fault}
 use Rattle.table.specs.declared.fault.Fault.TheVariants.{BadNames}
 use Rattle.sheets.specs.declared.form.Column.{Column}
@@ -8,9 +8,9 @@ use Rattle.sheets.specs.declared.form.Form.{Form}
 use Rattle.sheets.specs.declared.sheet.Sheet.{Sheet}
 use Rattle.sheets.specs.Forms.{columns_of, place}
 use Rattle.sheets.specs.Texts.{IsText, parts}
-use Rattle.sheets.specs.Reading.{IsSized, Heads, HasNames, AllowedCount, IsFirst, IsSheet}
-use Rattle.sheets.specs.Lines.{FirstFit, LinesMiss}
-use Rattle.sheets.specs.Sheets.{lines_of, ReadsText}
+use Rattle.sheets.specs.Reading.{IsSized, Heads, HasNames, IsFirst, IsSheet}
+use Rattle.sheets.specs.Lines.{ReadsLines}
+use Rattle.sheets.specs.Sheets.{ReadsText}
 use Rattle.sheets.proofs.Cuts.{ended, some_part, cut_is_text}
 use Rattle.sheets.proofs.Firsts.{seen, names_first, lines_first, sheet_from, sheet_misses_none}
 
@@ -26,7 +26,7 @@ module _ (form : Form) (number : ℕ) (text : List ℕ) (body : List ℕ) (sized
     go (first ∷ ls) e some = names_first form number text first ls sized (is_text first ls e) (bad first ls e)
 
   -- the value lines are read
-  pub values_read : (first : List ℕ) (ls : List (List ℕ)) → parts 10 body ≡ first ∷ ls → (columns : List Column) → Heads form (parts 32 first) (take (length (columns_of form)) columns) → (r : Result Sheet Fault) → MatchResult r (λ s. (s.form ≡ form) × (s.number ≡ number) × (s.columns ≡ columns) × (lines_of s ≡ ls) × FirstFit (take (length (columns_of form)) columns) ls (length ls) × AllowedCount form (length ls)) (λ fault. LinesMiss form number (take (length (columns_of form)) columns) ls fault) → ReadsText form number text r
+  pub values_read : (first : List ℕ) (ls : List (List ℕ)) → parts 10 body ≡ first ∷ ls → (columns : List Column) → Heads form (parts 32 first) (take (length (columns_of form)) columns) → (r : Result Sheet Fault) → ReadsLines form number columns ls r → ReadsText form number text r
   values_read first ls e columns heads (Ok s) h = (
     seen form first ls,
     take (length (columns_of form)) columns,

@@ -1,12 +1,14 @@
--- What a value line is asked, column by column. Only contracts of private functions cite these.
-use Rattle.std.specs.Prelude.{◌≡◌, ℕ, ◌+◌, ◌<◌, ◌==◌, if◌then◌else◌, ◌⊎◌, List, [], length, slice_index_or}
+-- What the value lines are asked. Only contracts of private functions cite these.
+use Rattle.std.specs.Prelude.{◌≡◌, ℕ, ◌+◌, ◌<◌, ◌==◌, if◌then◌else◌, ◌⊎◌, List, [], length, take, slice_index_or, Result, MatchResult}
 use Rattle.table.specs.declared.fault.Fault.{Fault}
 use Rattle.table.specs.declared.fault.Fault.TheVariants.{BadFieldCount, BadField, BadLineCount}
 use Rattle.sheets.specs.declared.form.Column.{Column}
 use Rattle.sheets.specs.declared.form.Column.TheVariants.{Processors}
 use Rattle.sheets.specs.declared.form.Form.{Form}
-use Rattle.sheets.specs.Forms.{kind_of, most_of, place}
+use Rattle.sheets.specs.declared.sheet.Sheet.{Sheet}
+use Rattle.sheets.specs.Forms.{kind_of, columns_of, most_of, place}
 use Rattle.sheets.specs.Reading.{IsOfKind, AllowedCount}
+use Rattle.sheets.specs.Sheets.{lines_of}
 use Rattle.sheets.specs.Texts.{parts}
 
 -- the field at a place, counted from 0, has the form of its column's kind
@@ -32,3 +34,11 @@ abbrev pub LinesMiss : Form → ℕ → List Column → List (List ℕ) → Faul
 LinesMiss form number columns lines fault =
     ((i : ℕ) × (i < length lines) × FirstFit columns lines i × Misses number columns (i + 2) (parts 32 (slice_index_or lines i [])) fault)
     ⊎ (FirstFit columns lines (length lines) × (AllowedCount form (length lines) → ⊥) × (fault ≡ BadLineCount (place number (if length lines == 0 then 1 else most_of form + 2) 0)))
+
+-- reading the value lines: the sheet of all of them, or the first fault; a list may have more columns than the form
+abbrev pub ReadsLines : Form → ℕ → List Column → List (List ℕ) → Result Sheet Fault → Type 0
+ReadsLines form number columns lines read =
+    MatchResult read
+    (λ sheet. (sheet.form ≡ form) × (sheet.number ≡ number) × (sheet.columns ≡ columns) × (lines_of sheet ≡ lines)
+    × FirstFit (take (length (columns_of form)) columns) lines (length lines) × AllowedCount form (length lines))
+    (LinesMiss form number (take (length (columns_of form)) columns) lines)

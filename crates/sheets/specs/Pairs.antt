@@ -1,13 +1,12 @@
 -- Pairing an answer sheet with a tasks sheet.
-use Rattle.std.specs.Prelude.{◌≡◌, ℕ, ◌+◌, ◌<◌, ◌≤◌, List, length, Result, MatchResult}
+use Rattle.std.specs.Prelude.{◌≡◌, ℕ, ◌<◌, ◌≤◌, List, length, Result, MatchResult}
 use Rattle.table.specs.declared.fault.Fault.{Fault}
 use Rattle.table.specs.declared.fault.Fault.TheVariants.{RepeatedTask, BadAnswer, NoAnswer}
 use Rattle.table.specs.declared.fault.Place.{Place}
 use Rattle.table.specs.Places.{nth}
 use Rattle.sheets.specs.declared.form.Column.TheVariants.{Task}
 use Rattle.sheets.specs.declared.sheet.Sheet.{Sheet}
-use Rattle.sheets.specs.Forms.{place}
-use Rattle.sheets.specs.Sheets.{values_of, left_of, field_of}
+use Rattle.sheets.specs.Sheets.{values_of, field_of, field_place, line_place}
 
 -- how many value lines a sheet has
 abbrev pub count_of : Sheet → ℕ
@@ -19,7 +18,7 @@ task_of s k = field_of s k Task
 
 -- the place of the name in the k-th value line
 abbrev pub name_place : Sheet → ℕ → Place
-name_place s k = place s.number (k + 1) (left_of s Task + 1)
+name_place s k = field_place s k Task
 
 -- question 6: the name of the k-th value line stands in no earlier one
 abbrev pub IsNewName : Sheet → ℕ → Type 0
@@ -53,7 +52,7 @@ FirstLine question n k = (1 ≤ k) × (k ≤ n) × (question k → ⊥) × ((i :
 abbrev pub PairMisses : Sheet → Sheet → Fault → Type 0
 PairMisses tasks answer (RepeatedTask p) = (k : ℕ) × (p ≡ name_place tasks k) × FirstLine (IsNewName tasks) (count_of tasks) k
 PairMisses tasks answer (BadAnswer p) = EachLine (IsNewName tasks) (count_of tasks) × ((k : ℕ) × (p ≡ name_place answer k) × FirstLine (Answers tasks answer) (count_of answer) k)
-PairMisses tasks answer (NoAnswer p) = EachLine (IsNewName tasks) (count_of tasks) × EachLine (Answers tasks answer) (count_of answer) × ((k : ℕ) × (p ≡ place tasks.number (k + 1) 0) × FirstLine (IsAnswered tasks answer) (count_of tasks) k)
+PairMisses tasks answer (NoAnswer p) = EachLine (IsNewName tasks) (count_of tasks) × EachLine (Answers tasks answer) (count_of answer) × ((k : ℕ) × (p ≡ line_place tasks k) × FirstLine (IsAnswered tasks answer) (count_of tasks) k)
 PairMisses tasks answer fault = ⊥
 
 -- a list has in its k-th place the row that the k-th value line of the answer names; 0 past the last one

@@ -1,13 +1,14 @@
 -- What a sheet that was read has, and what it is to read one.
 use Rattle.std.specs.Prelude.{◌≡◌, ℕ, ◌+◌, ◌<◌, ◌≤◌, List, [], map, length, take, drop, Contains, Result, MatchResult}
 use Rattle.table.specs.declared.fault.Fault.{Fault}
+use Rattle.table.specs.declared.fault.Place.{Place}
 use Rattle.sheets.specs.declared.form.Column.{Column}
 use Rattle.sheets.specs.declared.form.Form.{Form}
 use Rattle.sheets.specs.declared.sheet.Sheet.{Sheet}
 use Rattle.std.specs.List.{position_or_len}
 use Rattle.std.specs.Str.{bytes_eq}
 use Rattle.table.specs.Places.{nth}
-use Rattle.sheets.specs.Forms.{name_of, kind_of, columns_of}
+use Rattle.sheets.specs.Forms.{name_of, kind_of, columns_of, place}
 use Rattle.sheets.specs.Texts.{parts}
 use Rattle.sheets.specs.Reading.{IsOfKind, IsSheet, IsFirst}
 
@@ -34,6 +35,14 @@ HasField s k c = (1 ≤ k) × (k ≤ length (values_of s)) × (left_of s c < len
 -- the field under a column in the k-th value line; no byte where there is none
 abbrev pub field_of : Sheet → ℕ → Column → List ℕ
 field_of s k c = nth (nth (values_of s) k []) (left_of s c + 1) []
+
+-- the place of the field under a column in the k-th value line
+abbrev pub field_place : Sheet → ℕ → Column → Place
+field_place sheet k column = place sheet.number (k + 1) (left_of sheet column + 1)
+
+-- the place of the k-th value line
+abbrev pub line_place : Sheet → ℕ → Place
+line_place sheet k = place sheet.number (k + 1) 0
 
 -- each value line has a field under each of the form's columns, and the field has the form of its kind
 abbrev pub IsFull : Sheet → Type 0

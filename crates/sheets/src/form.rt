@@ -54,6 +54,9 @@ const ESTIMATE: &[u8] = b"estimate";
 /// The most columns that a form may have.
 pub(crate) const MOST_COLUMNS: usize = 8;
 
+/// The most value lines that a sheet may have.
+pub const MOST_LINES: usize = 32;
+
 impl Column {
     /// The column of this name.
     pub(crate) fn named(name: &[u8]) -> Option<Column>
@@ -124,7 +127,7 @@ impl Form {
     {
         match self {
             Form::Board => 1,
-            Form::Tasks | Form::Answer => 32,
+            Form::Tasks | Form::Answer => MOST_LINES,
         }
     }
 }

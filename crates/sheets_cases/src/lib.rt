@@ -4,10 +4,7 @@
 
 #[cfg(test)]
 mod tests {
-    use sheets::field::Field;
-    use sheets::form::{Column, Form};
-    use sheets::pair::pair;
-    use sheets::sheet::Sheet;
+    use sheets::{Column, Field, Form, Sheet, pair};
     use std::alloc::{AllocError, Global};
     use std::process::Abort;
     use std::test::Fail;

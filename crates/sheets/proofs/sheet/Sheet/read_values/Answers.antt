@@ -11,8 +11,8 @@ use Rattle.sheets.specs.Readers.{left}
 use Rattle.sheets.specs.Texts.{parts}
 use Rattle.sheets.proofs.Parts.{next_left, none_left}
 use Rattle.sheets.proofs.Lined.{miss_here, fit_here, kept_more, count_miss, few_lines, line_past}
-use Rattle.sheets.proofs.sheet.read.read_values.Goals as goal
-use Rattle.sheets.proofs.sheet.read.read_values.Goals.{then-len-lt32, else-len-lt32}
+use Rattle.sheets.proofs.sheet.Sheet.read_values.Goals as goal
+use Rattle.sheets.proofs.sheet.Sheet.read_values.Goals.{then-len-lt32, else-len-lt32}
 
 abbrev Short : Bor (List ℕ) → Type 0
 Short line = length line.now ≤ 4096

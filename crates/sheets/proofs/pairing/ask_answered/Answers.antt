@@ -2,7 +2,7 @@ use Rattle.std.proofs.Common.{◌+◌, sym, ap, ◌∙◌, arith}
 use Rattle.table.specs.declared.fault.Fault.TheVariants.{NoAnswer}
 use Rattle.sheets.specs.Pairs.{IsAnswered, count_of}
 use Rattle.sheets.proofs.Paired.{each_more, first_line, some_line, no_line}
-use Rattle.sheets.proofs.pair.ask_answered.Goals as goal
+use Rattle.sheets.proofs.pairing.ask_answered.Goals as goal
 
 pub returns-then-is_none : goal.returns-then-is_none
 returns-then-is_none c =

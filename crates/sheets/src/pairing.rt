@@ -1,6 +1,6 @@
 // The pairing of a tasks sheet and an answer sheet.
 ghost use Rattle.std.specs.Prelude.{◌≡◌, ◌+◌, IfOk, MatchResult};
-ghost use Rattle.sheets.specs.Forms.{place};
+ghost use Rattle.sheets.specs.Sheets.{line_place};
 ghost use Rattle.sheets.specs.Pairs.{count_of, name_place, IsNewName, Answers, IsAnswered, EachLine, FirstLine, RowsNamed, EachRowOnce, Pairs};
 
 use crate::sheet::Sheet;
@@ -41,7 +41,7 @@ fn rows_named(tasks: &Sheet<'_>, answer: &Sheet<'_>) -> Result<[usize; 32], Faul
 
 // Asks whether each task stands on the answer sheet.
 fn ask_answered(tasks: &Sheet<'_>, answer: &Sheet<'_>) -> Result<(), Fault>
-    ensures { MatchResult result (λ _. EachLine (IsAnswered tasks.now answer.now) (count_of tasks.now)) (λ fault. (k : _) × (fault ≡ Fault.NoAnswer (place tasks.now.number (k + 1) 0)) × FirstLine (IsAnswered tasks.now answer.now) (count_of tasks.now) k) }
+    ensures { MatchResult result (λ _. EachLine (IsAnswered tasks.now answer.now) (count_of tasks.now)) (λ fault. (k : _) × (fault ≡ Fault.NoAnswer (line_place tasks.now k)) × FirstLine (IsAnswered tasks.now answer.now) (count_of tasks.now) k) }
 {
     for i in 0..tasks.len() {
         if answer

@@ -3,7 +3,7 @@ use Rattle.std.specs.List.{All}
 use Rattle.sheets.specs.Forms.{columns_of}
 use Rattle.sheets.specs.Lines.{FirstFit}
 use Rattle.sheets.specs.Readers.{left}
-use Rattle.sheets.proofs.sheet.read.read_values.Given as goal
+use Rattle.sheets.proofs.sheet.Sheet.read_values.Given as goal
 
 abbrev pub invariant-loop-line : goal.invariant-loop-line
 invariant-loop-line l = record {
