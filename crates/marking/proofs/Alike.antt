@@ -14,7 +14,7 @@ use Rattle.sheets.specs.declared.sheet.Sheet.{Sheet}
 use Rattle.sheets.specs.Fields.{value}
 use Rattle.sheets.specs.Forms.{name_of, place}
 use Rattle.sheets.specs.Sheets.{columns_in, values_of, left_of, field_of, ReadsText}
-use Rattle.sheets.specs.Pairs.{count_of, task_of, IsNewName, HasTaskAt, HasTask, Answers, IsAnswered, EachLine, FirstLine, PairMisses}
+use Rattle.sheets.specs.Pairs.{count_of, task_of, IsNewName, HasTaskAt, HasTask, Answers, IsAnswered, EachLine, FirstLine, PairFails}
 use Rattle.sheets.proofs.Columns.{same_columns}
 use Rattle.sheets.proofs.Cuts.{one_text}
 use Rattle.bounds.specs.Named.{IsTestName}
@@ -128,7 +128,7 @@ module _ (s t : Sheet) (tasks : Alike s t) (u v : Sheet) (answer : Alike u v) wh
   answer_again : Alike v u
   answer_again = back u v answer
 
-  pair_misses : (f : Fault) → PairMisses s u f → PairMisses t v f
+  pair_misses : (f : Fault) → PairFails s u f → PairFails t v f
   pair_misses (RepeatedTask p) m = (
     m.0,
     m.1 ∙ under s t tasks (m.0 + 1) Task,

@@ -16,7 +16,7 @@ use Rattle.sheets.specs.Sheets.{left_of, HasField, field_of}
 use Rattle.sheets.specs.declared.form.Form.{Form}
 use Rattle.sheets.specs.declared.form.Form.TheVariants.{Board, Tasks, Answer}
 use Rattle.sheets.specs.Reading.{IsFirst, IsSheet}
-use Rattle.sheets.specs.Pairs.{count_of, task_of, IsNewName, Answers, IsAnswered, HasTaskAt, EachLine, FirstLine, PairMisses}
+use Rattle.sheets.specs.Pairs.{count_of, task_of, IsNewName, Answers, IsAnswered, HasTaskAt, EachLine, FirstLine, PairFails}
 
 -- the number under a column in the k-th value line
 abbrev pub number_under : Sheet → ℕ → Column → ℕ
@@ -86,6 +86,6 @@ IsPaired tasks answer = EachLine (IsNewName tasks) (count_of tasks) × EachLine 
 -- The fault is the first of three sheets: the board's test is asked first, then the pair, the rows and the estimates.
 pub data SheetsMiss (board tasks answer : Sheet) (fault : Fault) : Type 0 where
   by_test : TestMisses board fault → SheetsMiss board tasks answer fault
-  by_pair : HasTest board → PairMisses tasks answer fault → SheetsMiss board tasks answer fault
+  by_pair : HasTest board → PairFails tasks answer fault → SheetsMiss board tasks answer fault
   by_row : HasTest board → IsPaired tasks answer → RowMisses tasks fault → SheetsMiss board tasks answer fault
   by_estimate : HasTest board → IsPaired tasks answer → EachLine (HasRow tasks) (count_of tasks) → EstimateMisses tasks answer fault → SheetsMiss board tasks answer fault

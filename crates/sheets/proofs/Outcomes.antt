@@ -7,9 +7,9 @@ use Rattle.table.specs.declared.fault.Fault.{Fault}
 use Rattle.table.specs.declared.fault.Fault.TheVariants.{BadText, BadNames, BadFieldCount, BadField, BadLineCount}
 use Rattle.table.specs.declared.fault.Place.{Place}
 use Rattle.sheets.specs.declared.form.Form.{Form}
-use Rattle.sheets.specs.Reading.{Missed, is_last, Before, IsFirst}
+use Rattle.sheets.specs.Reading.{Fails, is_last, Before, IsFirst}
 
--- the number of a question by where it is missed
+-- the number of a question by where it fails
 number_at : ℕ → ℕ → ℕ → ℕ
 number_at late line field = cond (late == 1) 5 (cond (line == 0) 1 (cond (line == 1) 2 (cond (field == 0) 3 4)))
 
@@ -54,7 +54,7 @@ module _ (form : Form) (number : ℕ) (text : List ℕ) where
   abbrev field_of : Place → ℕ
   field_of p = p.field
 
-  number_is : (f : Fault) → Missed form number text f → number_of f ≡ number_at (is_last f) (place_of f).line (place_of f).field
+  number_is : (f : Fault) → Fails form number text f → number_of f ≡ number_at (is_last f) (place_of f).line (place_of f).field
   number_is (BadText p) m = first_number 0 p.line p.field refl (ap line_of m.0)
   number_is (BadNames p) m = second_number 0 p.line p.field refl (ap line_of m.2.0)
   number_is (BadFieldCount p) m = third_number 0 p.line p.field refl (omega (arith, ap line_of m.2.1, m.2.2.0)) (ap field_of m.2.1)
@@ -62,7 +62,7 @@ module _ (form : Form) (number : ℕ) (text : List ℕ) where
   number_is (BadLineCount p) m = fifth_number 1 p.line p.field refl
   number_is f m = absurd m.2
 
-  sheet_is : (f : Fault) → Missed form number text f → (place_of f).sheet ≡ number
+  sheet_is : (f : Fault) → Fails form number text f → (place_of f).sheet ≡ number
   sheet_is (BadText p) m = ap (λ (q : Place). q.sheet) m.0
   sheet_is (BadNames p) m = ap (λ (q : Place). q.sheet) m.2.0
   sheet_is (BadFieldCount p) m = ap (λ (q : Place). q.sheet) m.2.1
@@ -70,7 +70,7 @@ module _ (form : Form) (number : ℕ) (text : List ℕ) where
   sheet_is (BadLineCount p) m = ap (λ (q : Place). q.sheet) m.2.0
   sheet_is f m = absurd m.2
 
-  made_by : (f : Fault) → Missed form number text f → f ≡ fault_of (number_of f) (place_of f)
+  made_by : (f : Fault) → Fails form number text f → f ≡ fault_of (number_of f) (place_of f)
   made_by (BadText p) m = refl
   made_by (BadNames p) m = refl
   made_by (BadFieldCount p) m = refl

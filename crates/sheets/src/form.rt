@@ -60,7 +60,9 @@ pub const MOST_LINES: usize = 32;
 impl Column {
     /// The column of this name.
     pub(crate) fn named(name: &[u8]) -> Option<Column>
-        ensures { MatchOption result ((c : Column) → name.now ≢ name_of c) (λ c. name.now ≡ name_of c) }
+        ensures { MatchOption result
+            ((column : Column) → name.now ≢ name_of column)
+            (λ column. name.now ≡ name_of column) }
     {
         match name {
             PROCESSORS => Some(Column::Processors),
@@ -132,7 +134,7 @@ impl Form {
     }
 }
 
-/// A place on a sheet.
+/// A place on the sheet of this number.
 pub(crate) fn place(sheet: u32, line: u32, field: u32) -> Place
     ensures { result ≡ place sheet line field }
 {

@@ -4,6 +4,7 @@ ghost use Rattle.sheets.specs.declared.form.TheConstants.{MOST_LINES};
 ghost use Rattle.sheets.specs.declared.reader.TheConstants.{LONGEST};
 ghost use Rattle.sheets.specs.Forms.{name_of};
 ghost use Rattle.sheets.specs.Reading.{IsSized};
+ghost use Rattle.sheets.specs.Texts.{line_feed};
 
 use crate::field::Field;
 use crate::form::{Column, Form, MOST_COLUMNS, MOST_LINES, place};
@@ -29,7 +30,7 @@ pub struct Sheet<'a> {
 fn body_of(text: &[u8]) -> Option<&[u8]>
     ensures { MatchOption result
         (¬ IsSized text.now)
-        (λ body. IsSized text.now × (text.now ≡ body.now ++ 10 ∷ [])) }
+        (λ body. IsSized text.now × (text.now ≡ body.now ++ line_feed ∷ [])) }
 {
     let (last, body) = text.split_last()?;
     if *last == b'\n' && text.len() <= LONGEST {
@@ -58,7 +59,7 @@ impl<'a> Sheet<'a> {
     ghost use Rattle.sheets.specs.Sheets.{columns_in, lines_of, values_of, left_of, HasField, field_of, field_place, line_place, IsFull, ReadsText};
     ghost use Rattle.sheets.specs.Pairs.{task_of, name_place, EachLine};
 
-    #[tactic(auto, using(crate::proofs::Cuts::one_text, crate::proofs::Outcomes::one_first, crate::proofs::Firsts::sheet_misses_none))]
+    #[tactic(auto, using(crate::proofs::Cuts::one_text, crate::proofs::Outcomes::one_first))]
     /// Reads a text as a sheet of the form, with this number. Refused where the text is no such sheet (1 to 5).
     pub fn read(form: Form, number: u32, text: &'a [u8]) -> Result<Sheet<'a>, Fault>
         ensures read { ReadsText form number text.now result }
