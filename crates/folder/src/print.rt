@@ -7,7 +7,7 @@ ghost use Rattle.folder.specs.Folders.{file_name, PrintsThree};
 
 use crate::read::read_sheet;
 use marking::print::print_marks;
-use sheets::form::Form;
+use sheets::Form;
 use std::alloc::Global;
 use std::fs::Files;
 use std::io;

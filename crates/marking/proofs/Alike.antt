@@ -14,27 +14,27 @@ use Rattle.sheets.specs.declared.sheet.Sheet.{Sheet}
 use Rattle.sheets.specs.Fields.{value}
 use Rattle.sheets.specs.Forms.{name_of, place}
 use Rattle.sheets.specs.Sheets.{columns_in, values_of, left_of, field_of, ReadsText}
-use Rattle.sheets.specs.Pairs.{count_of, task_of, IsNewName, HasTaskAt, HasTask, Answers, IsAnswered, EachLine, FirstLine, PairMisses}
+use Rattle.sheets.specs.Pairs.{count_of, task_of, IsNewName, HasTaskAt, HasTask, Answers, IsAnswered, EachLine, FirstLine, PairFails}
 use Rattle.sheets.proofs.Columns.{same_columns}
 use Rattle.sheets.proofs.Cuts.{one_text}
 use Rattle.bounds.specs.Named.{IsTestName}
 use Rattle.marking.specs.Questions.{number_under, Suits, HasTest, TestMisses, HasRow, RowMisses, HasEstimate, EstimateMisses, IsPaired, SheetsMiss, by_test, by_pair, by_row, by_estimate}
 
--- Two sheets have one form, the same columns and the same values.
+-- Two sheets have one number, the same columns and the same values.
 pub record Alike (s t : Sheet) : Type 0 where
-  pub form : s.form ≡ t.form
+  pub number : s.number ≡ t.number
   pub columns : columns_in s ≡ columns_in t
   pub values : values_of s ≡ values_of t
 
 pub back : (s t : Sheet) → Alike s t → Alike t s
-back s t like = record { form = sym like.form; columns = sym like.columns; values = sym like.values }
+back s t like = record { number = sym like.number; columns = sym like.columns; values = sym like.values }
 
 -- a text is read in one way
-pub read_alike : (form : Form) (text : List ℕ) (s t : Sheet) → ReadsText form text (Ok s) → ReadsText form text (Ok t) → Alike s t
-read_alike form text s t a b =
+pub read_alike : (form : Form) (number : ℕ) (text : List ℕ) (s t : Sheet) → ReadsText form number text (Ok s) → ReadsText form number text (Ok t) → Alike s t
+read_alike form number text s t a b =
     let lines = one_text text a.0 b.0 a.2.cut b.2.cut in
     let columns = same_columns a.1 b.1 (sym a.2.heads.named ∙ ap (λ (ls : List (List (List ℕ))). nth ls 1 []) lines ∙ b.2.heads.named) in
-    record { form = a.3.0 ∙ sym b.3.0; columns = a.3.1 ∙ columns ∙ sym b.3.1; values = a.3.2 ∙ ap (drop 1) lines ∙ sym b.3.2 }
+    record { number = a.3.1 ∙ sym b.3.1; columns = a.3.2 ∙ columns ∙ sym b.3.2; values = a.3.3 ∙ ap (drop 1) lines ∙ sym b.3.3 }
 
 -- questions that say the same, of as many lines
 module _ (p q : ℕ → Type 0) (to : (k : ℕ) → p k → q k) (n m : ℕ) (many : n ≡ m) where
@@ -57,11 +57,11 @@ module _ (s t : Sheet) (like : Alike s t) where
   number : (k : ℕ) (c : Column) → number_under s k c ≡ number_under t k c
   number k c = ap value (field k c)
 
-  at : (line j : ℕ) → place s.form line j ≡ place t.form line j
-  at line j = ap (λ f. place f line j) like.form
+  at : (line j : ℕ) → place s.number line j ≡ place t.number line j
+  at line j = ap (λ n. place n line j) like.number
 
-  under : (line : ℕ) (c : Column) → place s.form line (left_of s c + 1) ≡ place t.form line (left_of t c + 1)
-  under line c = at line (left_of s c + 1) ∙ ap (λ l. place t.form line (l + 1)) (left c)
+  under : (line : ℕ) (c : Column) → place s.number line (left_of s c + 1) ≡ place t.number line (left_of t c + 1)
+  under line c = at line (left_of s c + 1) ∙ ap (λ l. place t.number line (l + 1)) (left c)
 
   suits : (c : Column) → Suits s c → Suits t c
   suits Processors h = subst Allowed (number 1 Processors) h
@@ -128,7 +128,7 @@ module _ (s t : Sheet) (tasks : Alike s t) (u v : Sheet) (answer : Alike u v) wh
   answer_again : Alike v u
   answer_again = back u v answer
 
-  pair_misses : (f : Fault) → PairMisses s u f → PairMisses t v f
+  pair_misses : (f : Fault) → PairFails s u f → PairFails t v f
   pair_misses (RepeatedTask p) m = (
     m.0,
     m.1 ∙ under s t tasks (m.0 + 1) Task,

@@ -77,13 +77,13 @@ shown_alike tasks other same a b size alike r q one two =
 
 module _ (x y z : List ℕ) (r q : Report) (one : Marked x y z r) (two : Marked x y z q) where
   pub same_board : SameSheet one.board two.board
-  same_board = one_sheet Board x one.board two.board one.read.0 two.read.0
+  same_board = one_sheet Board _ x one.board two.board one.read.0 two.read.0
 
   pub same_tasks : SameSheet one.tasks two.tasks
-  same_tasks = one_sheet Tasks y one.tasks two.tasks one.read.1 two.read.1
+  same_tasks = one_sheet Tasks _ y one.tasks two.tasks one.read.1 two.read.1
 
   pub same_answer : SameSheet one.answer two.answer
-  same_answer = one_sheet Answer z one.answer two.answer one.read.2 two.read.2
+  same_answer = one_sheet Answer _ z one.answer two.answer one.read.2 two.read.2
 
   pub same_test : one.test ≡ two.test
   same_test = one_test one.board two.board same_board one.test two.test one.is_test two.is_test

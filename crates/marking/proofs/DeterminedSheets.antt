@@ -15,12 +15,12 @@ pub record SameSheet (s u : Sheet) : Type 0 where
   pub names : map name_of (columns_in s) ≡ map name_of (columns_in u)
   pub values : values_of s ≡ values_of u
 
-pub one_sheet : (form : Form) (text : List ℕ) (s u : Sheet) → ReadsText form text (Ok s) → ReadsText form text (Ok u) → SameSheet s u
-one_sheet form text s u (lines, columns, is, shows) (lines', columns', is', shows') =
+pub one_sheet : (form : Form) (number : ℕ) (text : List ℕ) (s u : Sheet) → ReadsText form number text (Ok s) → ReadsText form number text (Ok u) → SameSheet s u
+one_sheet form number text s u (lines, columns, is, shows) (lines', columns', is', shows') =
     let same = one_text text lines lines' is.cut is'.cut in
     record {
-      names = ap (map name_of) shows.1 ∙ sym is.heads.named ∙ ap (λ (x : List (List (List ℕ))). nth x 1 []) same ∙ is'.heads.named ∙ sym (ap (map name_of) shows'.1);
-      values = shows.2 ∙ ap (λ (x : List (List (List ℕ))). drop 1 x) same ∙ sym shows'.2;
+      names = ap (map name_of) shows.2 ∙ sym is.heads.named ∙ ap (λ (x : List (List (List ℕ))). nth x 1 []) same ∙ is'.heads.named ∙ sym (ap (map name_of) shows'.2);
+      values = shows.3 ∙ ap (λ (x : List (List (List ℕ))). drop 1 x) same ∙ sym shows'.3;
     }
 
 -- the first place by a name, among the names

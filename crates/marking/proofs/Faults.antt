@@ -6,7 +6,7 @@ use Rattle.sheets.specs.declared.form.Column.TheVariants.{Estimate}
 use Rattle.sheets.specs.declared.sheet.Sheet.{Sheet}
 use Rattle.sheets.specs.Forms.{place}
 use Rattle.sheets.specs.Sheets.{left_of}
-use Rattle.sheets.specs.Pairs.{count_of, name_place, IsNewName, Answers, IsAnswered, EachLine, FirstLine, PairMisses}
+use Rattle.sheets.specs.Pairs.{count_of, name_place, IsNewName, Answers, IsAnswered, EachLine, FirstLine, PairFails}
 use Rattle.sheets.proofs.Outcomes.{level}
 use Rattle.marking.specs.Questions.{HasTest, TestMisses, HasRow, RowMisses, HasEstimate, EstimateMisses, IsPaired, SheetsMiss, by_test, by_pair, by_row, by_estimate}
 
@@ -26,32 +26,32 @@ module _ (board tasks answer : Sheet) where
   one_test_fault : (f g : Fault) → TestMisses board f → TestMisses board g → f ≡ g
   one_test_fault f g a b =
       let same = level (left_of board a.0) (left_of board b.0) (λ low. a.2 (b.3 a.0 low)) (λ low. b.2 (a.3 b.0 low)) in
-      a.1 ∙ ap (λ (n : ℕ). BadTest (place board.form 2 (n + 1))) same ∙ sym b.1
+      a.1 ∙ ap (λ (n : ℕ). BadTest (place board.number 2 (n + 1))) same ∙ sym b.1
 
-  no_pair_fault : (f : Fault) → IsPaired tasks answer → PairMisses tasks answer f → ⊥
+  no_pair_fault : (f : Fault) → IsPaired tasks answer → PairFails tasks answer f → ⊥
   no_pair_fault (RepeatedTask p) paired m = none_first (IsNewName tasks) (count_of tasks) m.0 paired.0 m.2
   no_pair_fault (BadAnswer p) paired m = none_first (Answers tasks answer) (count_of answer) m.1.0 paired.1 m.1.2
   no_pair_fault (NoAnswer p) paired m = none_first (IsAnswered tasks answer) (count_of tasks) m.2.0 paired.2 m.2.2
   no_pair_fault f paired m = m
 
-  one_pair_fault : (f g : Fault) → PairMisses tasks answer f → PairMisses tasks answer g → f ≡ g
+  one_pair_fault : (f g : Fault) → PairFails tasks answer f → PairFails tasks answer g → f ≡ g
   one_pair_fault (RepeatedTask p) g a b = go g b where
-    go : (h : Fault) → PairMisses tasks answer h → RepeatedTask p ≡ h
+    go : (h : Fault) → PairFails tasks answer h → RepeatedTask p ≡ h
     go (RepeatedTask q) b = ap RepeatedTask (a.1 ∙ ap (name_place tasks) (one_line (IsNewName tasks) (count_of tasks) a.0 b.0 a.2 b.2) ∙ sym b.1)
     go (BadAnswer q) b = absurd (none_first (IsNewName tasks) (count_of tasks) a.0 b.0 a.2)
     go (NoAnswer q) b = absurd (none_first (IsNewName tasks) (count_of tasks) a.0 b.0 a.2)
     go h b = absurd b
   one_pair_fault (BadAnswer p) g a b = go g b where
-    go : (h : Fault) → PairMisses tasks answer h → BadAnswer p ≡ h
+    go : (h : Fault) → PairFails tasks answer h → BadAnswer p ≡ h
     go (RepeatedTask q) b = absurd (none_first (IsNewName tasks) (count_of tasks) b.0 a.0 b.2)
     go (BadAnswer q) b = ap BadAnswer (a.1.1 ∙ ap (name_place answer) (one_line (Answers tasks answer) (count_of answer) a.1.0 b.1.0 a.1.2 b.1.2) ∙ sym b.1.1)
     go (NoAnswer q) b = absurd (none_first (Answers tasks answer) (count_of answer) a.1.0 b.1 a.1.2)
     go h b = absurd b
   one_pair_fault (NoAnswer p) g a b = go g b where
-    go : (h : Fault) → PairMisses tasks answer h → NoAnswer p ≡ h
+    go : (h : Fault) → PairFails tasks answer h → NoAnswer p ≡ h
     go (RepeatedTask q) b = absurd (none_first (IsNewName tasks) (count_of tasks) b.0 a.0 b.2)
     go (BadAnswer q) b = absurd (none_first (Answers tasks answer) (count_of answer) b.1.0 a.1 b.1.2)
-    go (NoAnswer q) b = ap NoAnswer (a.2.1 ∙ ap (λ (k : ℕ). place tasks.form (k + 1) 0) (one_line (IsAnswered tasks answer) (count_of tasks) a.2.0 b.2.0 a.2.2 b.2.2) ∙ sym b.2.1)
+    go (NoAnswer q) b = ap NoAnswer (a.2.1 ∙ ap (λ (k : ℕ). place tasks.number (k + 1) 0) (one_line (IsAnswered tasks answer) (count_of tasks) a.2.0 b.2.0 a.2.2 b.2.2) ∙ sym b.2.1)
     go h b = absurd b
   one_pair_fault f g a b = absurd a
 
@@ -59,11 +59,11 @@ module _ (board tasks answer : Sheet) where
   no_row_fault f each m = none_first (HasRow tasks) (count_of tasks) m.0 each m.2
 
   one_row_fault : (f g : Fault) → RowMisses tasks f → RowMisses tasks g → f ≡ g
-  one_row_fault f g a b = a.1 ∙ ap (λ (k : ℕ). BadRow (place tasks.form (k + 1) 0)) (one_line (HasRow tasks) (count_of tasks) a.0 b.0 a.2 b.2) ∙ sym b.1
+  one_row_fault f g a b = a.1 ∙ ap (λ (k : ℕ). BadRow (place tasks.number (k + 1) 0)) (one_line (HasRow tasks) (count_of tasks) a.0 b.0 a.2 b.2) ∙ sym b.1
 
   one_estimate_fault : (f g : Fault) → EstimateMisses tasks answer f → EstimateMisses tasks answer g → f ≡ g
   one_estimate_fault f g a b =
-      a.1 ∙ ap (λ (k : ℕ). BadOrder (place answer.form (k + 1) (left_of answer Estimate + 1))) (one_line (HasEstimate tasks answer) (count_of answer) a.0 b.0 a.2 b.2) ∙ sym b.1
+      a.1 ∙ ap (λ (k : ℕ). BadOrder (place answer.number (k + 1) (left_of answer Estimate + 1))) (one_line (HasEstimate tasks answer) (count_of answer) a.0 b.0 a.2 b.2) ∙ sym b.1
 
   -- sheets that miss no question have no fault
   pub no_sheets_fault : (f : Fault) → HasTest board → IsPaired tasks answer → EachLine (HasRow tasks) (count_of tasks) → EachLine (HasEstimate tasks answer) (count_of answer) → SheetsMiss board tasks answer f → ⊥

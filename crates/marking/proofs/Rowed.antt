@@ -6,7 +6,6 @@ use Rattle.std.proofs.lemmas.List.{length-append, get_or_append_left, get_or-app
 use Rattle.table.specs.declared.row.Row.{Row}
 use Rattle.table.specs.declared.fault.Fault.{Fault}
 use Rattle.table.specs.declared.fault.Place.{Place}
-use Rattle.sheets.specs.declared.form.Form.{Form}
 use Rattle.sheets.specs.Forms.{place}
 use Rattle.table.specs.Places.{nth}
 use Rattle.table.specs.Rows.{IsRow, Of, row, filler, view, Adds}
@@ -39,8 +38,8 @@ row_or_none c t d = elim (cases_lt c 1) [
 ]
 
 -- a place with its field put to 0
-pub whole_place : (p q : Place) (form : Form) (k j : ℕ) → (p.sheet ≡ q.sheet) × (p.line ≡ q.line) × (p.field ≡ 0) → q ≡ place form k j → p ≡ place form k 0
-whole_place p q form k j whole is = λ i. record { sheet = (whole.0 ∙ ap (λ (r : Place). r.sheet) is) i; line = (whole.1 ∙ ap (λ (r : Place). r.line) is) i; field = whole.2 i }
+pub whole_place : (p q : Place) (sheet k j : ℕ) → (p.sheet ≡ q.sheet) × (p.line ≡ q.line) × (p.field ≡ 0) → q ≡ place sheet k j → p ≡ place sheet k 0
+whole_place p q sheet k j whole is = λ i. record { sheet = (whole.0 ∙ ap (λ (r : Place). r.sheet) is) i; line = (whole.1 ∙ ap (λ (r : Place). r.line) is) i; field = whole.2 i }
 
 pub none_yet : (tasks : Sheet) (rows : List Row) → rows ≡ [] → RowsOf tasks 0 rows
 none_yet tasks rows is = record { size = ap length is; each = λ k low high. absurd (omega arith) }

@@ -16,7 +16,7 @@ use Rattle.sheets.specs.Sheets.{left_of, HasField, field_of}
 use Rattle.sheets.specs.declared.form.Form.{Form}
 use Rattle.sheets.specs.declared.form.Form.TheVariants.{Board, Tasks, Answer}
 use Rattle.sheets.specs.Reading.{IsFirst, IsSheet}
-use Rattle.sheets.specs.Pairs.{count_of, task_of, IsNewName, Answers, IsAnswered, HasTaskAt, EachLine, FirstLine, PairMisses}
+use Rattle.sheets.specs.Pairs.{count_of, task_of, IsNewName, Answers, IsAnswered, HasTaskAt, EachLine, FirstLine, PairFails}
 
 -- the number under a column in the k-th value line
 abbrev pub number_under : Sheet → ℕ → Column → ℕ
@@ -39,7 +39,7 @@ HasTest board = (c : Column) → Suits board c
 -- the fault is that of the leftmost field of the board that misses the question
 abbrev pub TestMisses : Sheet → Fault → Type 0
 TestMisses board fault =
-    (c : Column) × (fault ≡ BadTest (place board.form 2 (left_of board c + 1))) × (Suits board c → ⊥) × ((d : Column) → left_of board d < left_of board c → Suits board d)
+    (c : Column) × (fault ≡ BadTest (place board.number 2 (left_of board c + 1))) × (Suits board c → ⊥) × ((d : Column) → left_of board d < left_of board c → Suits board d)
 
 -- the test is the board's: the one of its name, on its processors, under an overhead of its V
 abbrev pub IsTest : Sheet → Overhead NamedTest → Type 0
@@ -51,7 +51,7 @@ HasRow tasks k = IsRow (number_under tasks k Wcet) (number_under tasks k Period)
 
 -- the fault is that of the first line that makes no row
 abbrev pub RowMisses : Sheet → Fault → Type 0
-RowMisses tasks fault = (k : ℕ) × (fault ≡ BadRow (place tasks.form (k + 1) 0)) × FirstLine (HasRow tasks) (count_of tasks) k
+RowMisses tasks fault = (k : ℕ) × (fault ≡ BadRow (place tasks.number (k + 1) 0)) × FirstLine (HasRow tasks) (count_of tasks) k
 
 -- question 17: the estimate in the k-th value line of the answer lies from the C to the D of the task that the line names
 abbrev pub HasEstimate : Sheet → Sheet → ℕ → Type 0
@@ -61,17 +61,23 @@ HasEstimate tasks answer k =
 -- the fault is that of the first line whose estimate does not
 abbrev pub EstimateMisses : Sheet → Sheet → Fault → Type 0
 EstimateMisses tasks answer fault =
-    (k : ℕ) × (fault ≡ BadOrder (place answer.form (k + 1) (left_of answer Estimate + 1))) × FirstLine (HasEstimate tasks answer) (count_of answer) k
+    (k : ℕ) × (fault ≡ BadOrder (place answer.number (k + 1) (left_of answer Estimate + 1))) × FirstLine (HasEstimate tasks answer) (count_of answer) k
 
 -- a text is a sheet of a form
 abbrev pub IsForm : Form → List ℕ → Type 0
 IsForm form text = (lines : List (List (List ℕ))) × (columns : List Column) × IsSheet form text lines columns
 
+-- the number of each of the three sheets
+abbrev pub sheet_of : Form → ℕ
+sheet_of Board = 1
+sheet_of Tasks = 2
+sheet_of Answer = 3
+
 -- The fault is the first of three texts, where one of them is no sheet: those of the board come first, then those of the tasks.
 pub data TextsMiss (board tasks answer : List ℕ) (fault : Fault) : Type 0 where
-  in_board : IsFirst Board board fault → TextsMiss board tasks answer fault
-  in_tasks : IsForm Board board → IsFirst Tasks tasks fault → TextsMiss board tasks answer fault
-  in_answer : IsForm Board board → IsForm Tasks tasks → IsFirst Answer answer fault → TextsMiss board tasks answer fault
+  in_board : IsFirst Board (sheet_of Board) board fault → TextsMiss board tasks answer fault
+  in_tasks : IsForm Board board → IsFirst Tasks (sheet_of Tasks) tasks fault → TextsMiss board tasks answer fault
+  in_answer : IsForm Board board → IsForm Tasks tasks → IsFirst Answer (sheet_of Answer) answer fault → TextsMiss board tasks answer fault
 
 -- no question of a pair is missed
 abbrev pub IsPaired : Sheet → Sheet → Type 0
@@ -80,6 +86,6 @@ IsPaired tasks answer = EachLine (IsNewName tasks) (count_of tasks) × EachLine 
 -- The fault is the first of three sheets: the board's test is asked first, then the pair, the rows and the estimates.
 pub data SheetsMiss (board tasks answer : Sheet) (fault : Fault) : Type 0 where
   by_test : TestMisses board fault → SheetsMiss board tasks answer fault
-  by_pair : HasTest board → PairMisses tasks answer fault → SheetsMiss board tasks answer fault
+  by_pair : HasTest board → PairFails tasks answer fault → SheetsMiss board tasks answer fault
   by_row : HasTest board → IsPaired tasks answer → RowMisses tasks fault → SheetsMiss board tasks answer fault
   by_estimate : HasTest board → IsPaired tasks answer → EachLine (HasRow tasks) (count_of tasks) → EstimateMisses tasks answer fault → SheetsMiss board tasks answer fault

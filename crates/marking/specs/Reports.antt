@@ -32,7 +32,7 @@ use Rattle.marking.specs.declared.report.Verdict.TheVariants as verdict
 use Rattle.marking.specs.declared.report.Outcome.{Outcome}
 use Rattle.marking.specs.declared.report.Outcome.TheVariants as outcome
 use Rattle.marking.specs.declared.case.Case.{Case}
-use Rattle.marking.specs.Questions.{number_under, HasTest, IsTest, IsPaired, HasRow, HasEstimate, TextsMiss, SheetsMiss}
+use Rattle.marking.specs.Questions.{number_under, HasTest, IsTest, IsPaired, HasRow, HasEstimate, sheet_of, TextsMiss, SheetsMiss}
 
 -- what a board's test answers: what the test of its name answers, and V added
 abbrev pub board_answer : Overhead NamedTest → List Row → ℕ → List Bool → List ℕ → Option ℕ
@@ -168,7 +168,7 @@ pub record Reports (t : Overhead NamedTest) (tasks answer : Sheet) (r : Report) 
 
 -- three texts are sheets, and these are what was read
 abbrev pub Read : List ℕ → List ℕ → List ℕ → Sheet → Sheet → Sheet → Type 0
-Read x y z board tasks answer = ReadsText Board x (Ok board) × ReadsText Tasks y (Ok tasks) × ReadsText Answer z (Ok answer)
+Read x y z board tasks answer = ReadsText Board (sheet_of Board) x (Ok board) × ReadsText Tasks (sheet_of Tasks) y (Ok tasks) × ReadsText Answer (sheet_of Answer) z (Ok answer)
 
 -- Three texts have a report: each is a sheet, no question is missed, and the report is that on the sheets under the board's test.
 pub record Marked (x y z : List ℕ) (r : Report) : Type 0 where

@@ -12,8 +12,7 @@ use crate::fields::{field, number};
 use bounds::named::NamedTest;
 use bounds::overhead::Overhead;
 use bounds::processors::Processors;
-use sheets::form::Column;
-use sheets::sheet::Sheet;
+use sheets::{Column, Sheet};
 use table::fault::{Fault, Place};
 
 // Whether a test has this name.

@@ -18,8 +18,7 @@ use crate::shown::{outcome_of, report_of, search};
 use bounds::check::check;
 use bounds::named::NamedTest;
 use bounds::overhead::Overhead;
-use sheets::pair::pair;
-use sheets::sheet::Sheet;
+use sheets::{Sheet, pair};
 use study::study::Study;
 use table::fault::Fault;
 

@@ -7,8 +7,7 @@ ghost use Rattle.marking.specs.Questions.{HasEstimate, EstimateMisses};
 ghost use Rattle.marking.specs.Reports.{EstimatesOf};
 
 use crate::fields::{field, number};
-use sheets::form::Column;
-use sheets::sheet::Sheet;
+use sheets::{Column, Sheet};
 use table::fault::Fault;
 
 // Whether an estimate lies from a wcet to a deadline.

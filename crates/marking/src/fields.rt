@@ -4,15 +4,13 @@ ghost use Rattle.sheets.specs.Forms.{place};
 ghost use Rattle.sheets.specs.Sheets.{left_of, HasField, field_of};
 ghost use Rattle.marking.specs.Questions.{number_under, HasNumber};
 
-use sheets::field::Field;
-use sheets::form::Column;
-use sheets::sheet::Sheet;
+use sheets::{Column, Field, Sheet};
 
 /// The field under a column in the k-th value line.
 pub(crate) fn field<'a>(sheet: &Sheet<'a>, k: usize, column: Column) -> Field<'a>
     requires { HasField sheet.now k column }
     ensures bytes { result.bytes.now ≡ field_of sheet.now k column }
-    ensures place { result.place ≡ place sheet.now.form (k + 1) (left_of sheet.now column + 1) }
+    ensures place { result.place ≡ place sheet.now.number (k + 1) (left_of sheet.now column + 1) }
 {
     sheet.field(k, column).unwrap()
 }

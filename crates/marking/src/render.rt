@@ -5,7 +5,7 @@ ghost use Rattle.marking.specs.Rendered.{texts_of, word_of, bound_text, level_co
 
 use crate::report::{Outcome, Report, Verdict};
 use itoa::Buffer;
-use sheets::form::Column;
+use sheets::Column;
 use std::alloc::{AllocError, Global};
 use table::fault::Fault;
 

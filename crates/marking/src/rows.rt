@@ -8,8 +8,7 @@ ghost use Rattle.marking.specs.Questions.{HasRow, RowMisses};
 ghost use Rattle.marking.specs.Reports.{RowsOf, HasHistory};
 
 use crate::fields::{field, number};
-use sheets::form::Column;
-use sheets::sheet::Sheet;
+use sheets::{Column, Sheet};
 use study::study::Study;
 use table::fault::{Fault, Place};
 

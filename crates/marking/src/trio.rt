@@ -1,11 +1,10 @@
 // The three sheets.
-ghost use Rattle.std.specs.Prelude.{Ok, MatchResult};
-ghost use Rattle.sheets.specs.declared.form.Form.TheVariants.{Board, Tasks, Answer};
-ghost use Rattle.sheets.specs.Sheets.{IsFull, ReadsText};
+ghost use Rattle.std.specs.Prelude.{MatchResult};
+ghost use Rattle.sheets.specs.Sheets.{IsFull};
 ghost use Rattle.marking.specs.Questions.{TextsMiss};
+ghost use Rattle.marking.specs.Reports.{Read};
 
-use sheets::form::Form;
-use sheets::sheet::Sheet;
+use sheets::{Form, Sheet};
 use table::fault::Fault;
 
 /// A board, its tasks and an answer.
@@ -24,14 +23,14 @@ impl<'a> Trio<'a> {
         answer: &'a [u8],
     ) -> Result<Trio<'a>, Fault>
         ensures { MatchResult result
-            (λ s. (ReadsText Board board.now (Ok s.board) × ReadsText Tasks tasks.now (Ok s.tasks) × ReadsText Answer answer.now (Ok s.answer))
+            (λ s. Read board.now tasks.now answer.now s.board s.tasks s.answer
             × (IsFull s.board × IsFull s.tasks × IsFull s.answer))
             (λ fault. TextsMiss board.now tasks.now answer.now fault) }
     {
         Ok(Trio {
-            board: Sheet::read(Form::Board, board)?,
-            tasks: Sheet::read(Form::Tasks, tasks)?,
-            answer: Sheet::read(Form::Answer, answer)?,
+            board: Sheet::read(Form::Board, 1, board)?,
+            tasks: Sheet::read(Form::Tasks, 2, tasks)?,
+            answer: Sheet::read(Form::Answer, 3, answer)?,
         })
     }
 }

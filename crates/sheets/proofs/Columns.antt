@@ -13,8 +13,8 @@ use Rattle.sheets.specs.declared.form.Column.{Column}
 use Rattle.sheets.specs.declared.form.Column.TheVariants.{Processors, Overhead, Test, Task, Wcet, Period, Deadline, Estimate}
 use Rattle.sheets.specs.declared.form.Form.{Form}
 use Rattle.sheets.specs.declared.form.Form.TheVariants.{Board, Tasks, Answer}
-use Rattle.sheets.specs.Forms.{name_of, columns_of}
-use Rattle.sheets.specs.Texts.{parts}
+use Rattle.sheets.specs.Forms.{first_columns, name_of, columns_of}
+use Rattle.sheets.specs.Texts.{fields_in}
 use Rattle.sheets.specs.Reading.{Heads, HasNames}
 
 -- the derived `==` says whether two columns are one
@@ -86,9 +86,9 @@ module _ (form : Form) (names : List (List ℕ)) where
       omega (arith, ap length whole, length-append (map name_of cs) (f ∷ rest), length-map cs name_of, ap length given.1.named, length-map given.0 name_of, given.1.size)
 
   -- the columns so far are the form's, if the test says so
-  pub heads_by : (columns : List Column) (count : ℕ) (said : Bool) (r : Option (List Column)) → names ≡ map name_of (take count columns) → length (take count columns) ≡ count → Decides said ((length (take count columns) ≡ length (columns_of form)) × All (Contains (take count columns)) (columns_of form)) → r ≡ then_some said columns → MatchOption r (HasNames form names → ⊥) (λ o. Heads form names (take (length (columns_of form)) o))
-  heads_by columns count said r whole long test is = subst (λ q. MatchOption q (HasNames form names → ⊥) (λ o. Heads form names (take (length (columns_of form)) o))) (sym is) (go said refl) where
-    go : (v : Bool) → said ≡ v → MatchOption (then_some v columns) (HasNames form names → ⊥) (λ o. Heads form names (take (length (columns_of form)) o))
+  pub heads_by : (columns : List Column) (count : ℕ) (said : Bool) (r : Option (List Column)) → names ≡ map name_of (take count columns) → length (take count columns) ≡ count → Decides said ((length (take count columns) ≡ length (columns_of form)) × All (Contains (take count columns)) (columns_of form)) → r ≡ then_some said columns → MatchOption r (HasNames form names → ⊥) (λ o. Heads form names (first_columns form o))
+  heads_by columns count said r whole long test is = subst (λ q. MatchOption q (HasNames form names → ⊥) (λ o. Heads form names (first_columns form o))) (sym is) (go said refl) where
+    go : (v : Bool) → said ≡ v → MatchOption (then_some v columns) (HasNames form names → ⊥) (λ o. Heads form names (first_columns form o))
     go true e =
         let h = test.0 e in
         subst (λ n. Heads form names (take n columns)) (sym long ∙ h.0) (record { named = whole; size = h.0; each = h.1 })
@@ -97,6 +97,6 @@ module _ (form : Form) (names : List (List ℕ)) where
         false≢true (sym e ∙ test.1 (ap length (sym same) ∙ given.1.size, subst (λ xs. All (Contains xs) (columns_of form)) same given.1.each))
 
 -- the same of the line that is left first
-pub named_next : (form : Form) (first : List ℕ) (rest before : List (List ℕ)) → before ≡ first ∷ rest → (r : Option (List Column)) → MatchOption r (HasNames form (parts 32 first) → ⊥) (λ o. Heads form (parts 32 first) (take (length (columns_of form)) o)) → MatchOption r ((names : List ℕ) (lines : List (List ℕ)) → before ≡ names ∷ lines → HasNames form (parts 32 names) → ⊥) (λ o. (x : List ℕ) × (before ≡ x ∷ rest) × Heads form (parts 32 x) (take (length (columns_of form)) o))
-named_next form first rest before e None h = λ names lines f given. let same : names ≡ first = cc in h (subst (λ n. HasNames form (parts 32 n)) same given)
+pub named_next : (form : Form) (first : List ℕ) (rest before : List (List ℕ)) → before ≡ first ∷ rest → (r : Option (List Column)) → MatchOption r (HasNames form (fields_in first) → ⊥) (λ o. Heads form (fields_in first) (first_columns form o)) → MatchOption r ((names : List ℕ) (lines : List (List ℕ)) → before ≡ names ∷ lines → HasNames form (fields_in names) → ⊥) (λ o. (x : List ℕ) × (before ≡ x ∷ rest) × Heads form (fields_in x) (first_columns form o))
+named_next form first rest before e None h = λ names lines f given. let same : names ≡ first = cc in h (subst (λ n. HasNames form (fields_in n)) same given)
 named_next form first rest before e (Some o) h = (first, e, h)

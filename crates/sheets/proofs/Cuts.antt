@@ -7,14 +7,14 @@ use Rattle.std.proofs.lemmas.List.Splits.{slice_split_at, slice_split_none, leng
 use Rattle.std.specs.List.{All, flat_map, join_with_byte, onto_first}
 use Rattle.table.specs.Places.{nth}
 use Rattle.table.proofs.Placed.{nth_next}
-use Rattle.sheets.specs.Texts.{parts, IsField, line_of, text_of, IsText}
+use Rattle.sheets.specs.Texts.{fields_in, parts, IsField, line_of, text_of, IsText}
 
 abbrev pub ended : List ℕ → List ℕ
 ended line = line ++ 10 ∷ []
 
 -- the lines of a text, without its last line feed, as their fields
 abbrev pub cut : List ℕ → List (List (List ℕ))
-cut body = map (parts 32) (parts 10 body)
+cut body = map fields_in (parts 10 body)
 
 -- there is always a part
 pub some_part : (m : ℕ) (xs : List ℕ) → 1 ≤ length (parts m xs)
@@ -60,9 +60,9 @@ text_lines : (lines : List (List (List ℕ))) → text_of lines ≡ flat_map end
 text_lines [] = refl
 text_lines (l ∷ ls) = ap (λ t. ended (line_of l) ++ t) (text_lines ls)
 
-joined : (ls : List (List ℕ)) → map line_of (map (parts 32) ls) ≡ ls
+joined : (ls : List (List ℕ)) → map line_of (map fields_in ls) ≡ ls
 joined [] = refl
-joined (l ∷ ls) = ap (λ (k : List ℕ). k ∷ map line_of (map (parts 32) ls)) (join_with_byte-slice_split 32 l) ∙ ap (λ (ks : List (List ℕ)). l ∷ ks) (joined ls)
+joined (l ∷ ls) = ap (λ (k : List ℕ). k ∷ map line_of (map fields_in ls)) (join_with_byte-slice_split 32 l) ∙ ap (λ (ks : List (List ℕ)). l ∷ ks) (joined ls)
 
 abbrev Line : List (List ℕ) → Type 0
 Line fields = (1 ≤ length fields) × All IsField fields
@@ -71,8 +71,8 @@ Line fields = (1 ≤ length fields) × All IsField fields
 pub cut_is_text : (body : List ℕ) → IsText (ended body) (cut body)
 cut_is_text body = record {
   whole = sym (text_lines (cut body) ∙ ap (flat_map ended) (joined (parts 10 body)) ∙ ended_lines (parts 10 body) (some_part 10 body) ∙ ap ended (join_with_byte-slice_split 10 body));
-  each = All-map Line (parts 32) (parts 10 body)
-      (All-weaker (All (λ b. b ≢ 10)) (λ l. Line (parts 32 l)) (λ l h. (some_part 32 l, parts_hold (λ b. (b ≢ 10) × (b ≢ 32)) 32 l (All-weaker (λ b. b ≢ 10) (λ b. b ≢ 32 → (b ≢ 10) × (b ≢ 32)) (λ b x y. (x, y)) l h))) (parts 10 body)
+  each = All-map Line fields_in (parts 10 body)
+      (All-weaker (All (λ b. b ≢ 10)) (λ l. Line (fields_in l)) (λ l h. (some_part 32 l, parts_hold (λ b. (b ≢ 10) × (b ≢ 32)) 32 l (All-weaker (λ b. b ≢ 10) (λ b. b ≢ 32 → (b ≢ 10) × (b ≢ 32)) (λ b x y. (x, y)) l h))) (parts 10 body)
       (parts_hold (λ b. b ≢ 10) 10 body (λ k d l e. e)));
 }
 
@@ -83,11 +83,11 @@ line_lacks (f ∷ g ∷ fs) h =
     All-append (λ b. b ≢ 10) f (32 ∷ line_of (g ∷ fs)) (All-weaker (λ b. (b ≢ 10) × (b ≢ 32)) (λ b. b ≢ 10) (λ b e. e.0) f (All-head IsField f (g ∷ fs) h))
     (All-cons (λ b. b ≢ 10) 32 (line_of (g ∷ fs)) (omega arith) (line_lacks (g ∷ fs) (All-tail IsField f (g ∷ fs) h)))
 
-parted : (lines : List (List (List ℕ))) → All Line lines → map (parts 32) (map line_of lines) ≡ lines
+parted : (lines : List (List (List ℕ))) → All Line lines → map fields_in (map line_of lines) ≡ lines
 parted [] h = refl
 parted (l ∷ ls) h =
     let line = All-head Line l ls h in
-    ap (λ (k : List (List ℕ)). k ∷ map (parts 32) (map line_of ls)) (parts-join 32 l line.0 (All-weaker IsField (All (λ b. b ≢ 32)) (λ f e. All-weaker (λ b. (b ≢ 10) × (b ≢ 32)) (λ b. b ≢ 32) (λ b x. x.1) f e) l line.1))
+    ap (λ (k : List (List ℕ)). k ∷ map fields_in (map line_of ls)) (parts-join 32 l line.0 (All-weaker IsField (All (λ b. b ≢ 32)) (λ f e. All-weaker (λ b. (b ≢ 10) × (b ≢ 32)) (λ b. b ≢ 32) (λ b x. x.1) f e) l line.1))
     ∙ ap (λ (ks : List (List (List ℕ))). l ∷ ks) (parted ls (All-tail Line l ls h))
 
 -- and of no others
@@ -98,7 +98,7 @@ only_cut body (l ∷ ls) t =
     let same : body ≡ join_with_byte 10 (map line_of lines) =
     append_cancel_right body (join_with_byte 10 (map line_of lines)) (10 ∷ []) (t.whole ∙ text_lines lines ∙ ended_lines (map line_of lines) (omega arith)) in
     sym (ap cut same
-    ∙ ap (map (parts 32)) (parts-join 10 (map line_of lines) (omega arith) (All-map (All (λ b. b ≢ 10)) line_of lines (All-weaker Line (λ fields. All (λ b. b ≢ 10) (line_of fields)) (λ fields h. line_lacks fields h.1) lines t.each)))
+    ∙ ap (map fields_in) (parts-join 10 (map line_of lines) (omega arith) (All-map (All (λ b. b ≢ 10)) line_of lines (All-weaker Line (λ fields. All (λ b. b ≢ 10) (line_of fields)) (λ fields h. line_lacks fields h.1) lines t.each)))
     ∙ parted lines t.each)
 
 -- the last byte of a text

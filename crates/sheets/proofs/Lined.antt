@@ -13,22 +13,22 @@ use Rattle.sheets.specs.declared.form.Form.{Form}
 use Rattle.sheets.specs.declared.form.Form.TheVariants.{Board, Tasks, Answer}
 use Rattle.sheets.specs.Forms.{most_of, place}
 use Rattle.sheets.specs.Reading.{AllowedCount}
-use Rattle.sheets.specs.Lines.{Fits, Misses, FirstFit, LinesMiss}
-use Rattle.sheets.specs.Texts.{parts}
+use Rattle.sheets.specs.Lines.{Fits, LineFails, FirstFit, LinesFail}
+use Rattle.sheets.specs.Texts.{fields_in}
 use Rattle.sheets.proofs.Parts.{next_left, get_or-map}
 
-module _ (form : Form) (columns : List Column) (lines : List (List ℕ)) (i : ℕ) (fit : FirstFit columns lines i) (bytes : List ℕ) (rest : List (List ℕ)) (e : drop i lines ≡ bytes ∷ rest) where
+module _ (form : Form) (number : ℕ) (columns : List Column) (lines : List (List ℕ)) (i : ℕ) (fit : FirstFit columns lines i) (bytes : List ℕ) (rest : List (List ℕ)) (e : drop i lines ≡ bytes ∷ rest) where
   here : get_or lines i [] ≡ bytes
   here = (next_left lines i [] bytes rest e).0
 
-  -- the line that is asked next misses a question
-  pub miss_here : (line : ℕ) (fault : Fault) → line ≡ i + 2 → Misses form columns line (parts 32 bytes) fault → LinesMiss form columns lines fault
-  miss_here line fault is m =
-      inl (i, omega (arith, ap length e, length-drop i lines), fit, subst (λ b. Misses form columns (i + 2) (parts 32 b) fault) (sym here) (subst (λ n. Misses form columns n (parts 32 bytes) fault) is m))
+  -- a question of the line that is asked next fails
+  pub fails_here : (line : ℕ) (fault : Fault) → line ≡ i + 2 → LineFails number columns line (fields_in bytes) fault → LinesFail form number columns lines fault
+  fails_here line fault is m =
+      inl (i, omega (arith, ap length e, length-drop i lines), fit, subst (λ b. LineFails number columns (i + 2) (fields_in b) fault) (sym here) (subst (λ n. LineFails number columns n (fields_in bytes) fault) is m))
 
-  -- or misses none
-  pub fit_here : Fits columns (parts 32 bytes) → FirstFit columns lines (i + 1)
-  fit_here h = below_more _ _ fit (subst (λ b. Fits columns (parts 32 b)) (sym here) h)
+  -- or the line fits
+  pub fit_here : Fits columns (fields_in bytes) → FirstFit columns lines (i + 1)
+  fit_here h = below_more _ _ fit (subst (λ b. Fits columns (fields_in b)) (sym here) h)
 
 -- the lines that are kept, with one more
 abbrev now_of : Bor (List ℕ) → List ℕ
@@ -43,9 +43,9 @@ module _ (kept : List (Bor (List ℕ))) (lines : List (List ℕ)) (n : ℕ) wher
       ∙ ap (λ (l : List ℕ). take n lines ++ l ∷ []) (sym same)
       ∙ sym (take_more lines n [] here)
 
--- each value line misses nothing, but their number is not allowed
-pub count_miss : (form : Form) (columns : List Column) (lines : List (List ℕ)) (n : ℕ) (p : Place) → FirstFit columns lines n → n ≡ length lines → (AllowedCount form n → ⊥) → p ≡ place form (cond (n == 0) 1 (most_of form + 2)) 0 → LinesMiss form columns lines (BadLineCount p)
-count_miss form columns lines n p fit all bad is = let same = λ (m : ℕ). (FirstFit columns lines m × (AllowedCount form m → ⊥) × (BadLineCount p ≡ BadLineCount (place form (cond (m == 0) 1 (most_of form + 2)) 0))) in inr (subst same all (fit, bad, ap BadLineCount is))
+-- each value line fits, but their number is not allowed
+pub count_fails : (form : Form) (number : ℕ) (columns : List Column) (lines : List (List ℕ)) (n : ℕ) (p : Place) → FirstFit columns lines n → n ≡ length lines → (AllowedCount form n → ⊥) → p ≡ place number (cond (n == 0) 1 (most_of form + 2)) 0 → LinesFail form number columns lines (BadLineCount p)
+count_fails form number columns lines n p fit all bad is = let same = λ (m : ℕ). (FirstFit columns lines m × (AllowedCount form m → ⊥) × (BadLineCount p ≡ BadLineCount (place number (cond (m == 0) 1 (most_of form + 2)) 0))) in inr (subst same all (fit, bad, ap BadLineCount is))
 
 pub few_lines : (form : Form) → most_of form ≤ 32
 few_lines Board = omega arith

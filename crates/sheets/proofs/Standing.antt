@@ -38,7 +38,7 @@ module _ (columns : List Column) (c : Column) (there : Contains columns c) where
   is_column : get_or columns at c ≡ c
   is_column = one_column (get_or columns at c) c ((bytes_eq-Decides (name_of (get_or columns at c)) (name_of c)).0 (passes_at_first same columns c found))
 
-module _ (form : Form) (text : List ℕ) (lines : List (List (List ℕ))) (columns : List Column) (sheet : IsSheet form text lines columns) where
+module _ (form : Form) (number : ℕ) (text : List ℕ) (lines : List (List (List ℕ))) (columns : List Column) (sheet : IsSheet form text lines columns) where
   -- under each column stands its name
   heading : (c : Column) (there : Contains columns c) → field lines 1 (at columns c there + 1) ≡ name_of c
   heading c there =
@@ -48,14 +48,14 @@ module _ (form : Form) (text : List ℕ) (lines : List (List (List ℕ))) (colum
       ∙ get_or_default (map name_of columns) j [] (name_of c) (omega (arith, length-map columns name_of))
       ∙ get_or-map name_of columns j c ∙ ap name_of (is_column columns c there)
 
-  full : (s : Sheet) → Shows form lines columns s → IsFull s
+  full : (s : Sheet) → Shows form number lines columns s → IsFull s
   full s shows k c low high of_form =
       let there = All-contains (Contains columns) (columns_of form) c sheet.heads.each (subst (λ f. Contains (columns_of f) c) shows.0 of_form) in
       let j = at columns c there in
-      let left : left_of s c ≡ j = ap (position_or_len (same columns c there)) shows.1 in
+      let left : left_of s c ≡ j = ap (position_or_len (same columns c there)) shows.2 in
       let line : nth (values_of s) k [] ≡ nth lines (k + 1) [] =
-      ap (λ v. nth v k []) shows.2 ∙ nth_at (drop 1 lines) k [] low ∙ get_or-drop 1 lines (k - 1) [] ∙ ap (λ i. get_or lines i []) (let e : 1 + (k - 1) ≡ k = omega arith in e) ∙ sym (nth_next lines k []) in
-      let value : IsValueLine lines (k + 1) = (omega arith, omega (arith, high, ap length shows.2, length-drop 1 lines)) in
+      ap (λ v. nth v k []) shows.3 ∙ nth_at (drop 1 lines) k [] low ∙ get_or-drop 1 lines (k - 1) [] ∙ ap (λ i. get_or lines i []) (let e : 1 + (k - 1) ≡ k = omega arith in e) ∙ sym (nth_next lines k []) in
+      let value : IsValueLine lines (k + 1) = (omega arith, omega (arith, high, ap length shows.3, length-drop 1 lines)) in
       let wide : length (nth lines (k + 1) []) ≡ length columns = sheet.counts (k + 1) value ∙ ap length sheet.heads.named ∙ length-map columns name_of in
       let inside = found columns c there in (
         (low, high, omega (arith, left, ap length line, wide, inside)),
@@ -64,6 +64,6 @@ module _ (form : Form) (text : List ℕ) (lines : List (List (List ℕ))) (colum
       )
 
 -- what was read is full
-pub read_is_full : (form : Form) (text : List ℕ) (r : Result Sheet Fault) → ReadsText form text r → IfOk r IsFull
-read_is_full form text (Ok s) h = full form text h.0 h.1 h.2 s h.3
-read_is_full form text (Err fault) h = tt
+pub read_is_full : (form : Form) (number : ℕ) (text : List ℕ) (r : Result Sheet Fault) → ReadsText form number text r → IfOk r IsFull
+read_is_full form number text (Ok s) h = full form number text h.0 h.1 h.2 s h.3
+read_is_full form number text (Err fault) h = tt

@@ -1,5 +1,5 @@
 -- The forms of sheet: their columns, and how many value lines they may have.
-use Rattle.std.specs.Prelude.{ℕ, List, [], ◌∷◌, codes}
+use Rattle.std.specs.Prelude.{ℕ, List, [], ◌∷◌, length, take, codes}
 use Rattle.table.specs.declared.fault.Place.{Place}
 use Rattle.sheets.specs.declared.form.Column.{Column}
 use Rattle.sheets.specs.declared.form.Column.TheVariants.{Processors, Overhead, Test, Task, Wcet, Period, Deadline, Estimate}
@@ -36,18 +36,20 @@ columns_of Board = Processors ∷ Overhead ∷ Test ∷ []
 columns_of Tasks = Task ∷ Wcet ∷ Period ∷ Deadline ∷ []
 columns_of Answer = Task ∷ Estimate ∷ []
 
--- the number of a sheet of a form
-abbrev pub sheet_of : Form → ℕ
-sheet_of Board = 1
-sheet_of Tasks = 2
-sheet_of Answer = 3
+-- the most value lines that any sheet may have
+abbrev pub most_lines : ℕ
+most_lines = 32
 
 -- the most value lines that a sheet of a form may have; the least is 1
 abbrev pub most_of : Form → ℕ
 most_of Board = 1
-most_of Tasks = 32
-most_of Answer = 32
+most_of Tasks = most_lines
+most_of Answer = most_lines
 
--- a place on a sheet of a form
-abbrev pub place : Form → ℕ → ℕ → Place
-place form line field = record { sheet = sheet_of form; line = line; field = field }
+-- the columns that stand first in a list, as many as the form has
+abbrev pub first_columns : Form → List Column → List Column
+first_columns form columns = take (length (columns_of form)) columns
+
+-- a place on the sheet of a number
+abbrev pub place : ℕ → ℕ → ℕ → Place
+place number line field = record { sheet = number; line = line; field = field }

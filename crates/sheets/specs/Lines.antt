@@ -1,34 +1,53 @@
--- What a value line is asked, column by column. Only contracts of private functions cite these.
-use Rattle.std.specs.Prelude.{◌≡◌, ℕ, ◌+◌, ◌<◌, ◌==◌, if◌then◌else◌, ◌⊎◌, List, [], length, slice_index_or}
+-- What the value lines are asked. Only contracts of private functions cite these.
+use Rattle.std.specs.Prelude.{◌≡◌, ℕ, ◌+◌, ◌<◌, ◌==◌, if◌then◌else◌, ◌⊎◌, List, [], length, slice_index_or, Result, MatchResult}
 use Rattle.table.specs.declared.fault.Fault.{Fault}
 use Rattle.table.specs.declared.fault.Fault.TheVariants.{BadFieldCount, BadField, BadLineCount}
 use Rattle.sheets.specs.declared.form.Column.{Column}
 use Rattle.sheets.specs.declared.form.Column.TheVariants.{Processors}
 use Rattle.sheets.specs.declared.form.Form.{Form}
-use Rattle.sheets.specs.Forms.{kind_of, most_of, place}
+use Rattle.sheets.specs.declared.sheet.Sheet.{Sheet}
+use Rattle.sheets.specs.Forms.{kind_of, most_of, first_columns, place}
 use Rattle.sheets.specs.Reading.{IsOfKind, AllowedCount}
-use Rattle.sheets.specs.Texts.{parts}
+use Rattle.sheets.specs.Sheets.{lines_of}
+use Rattle.sheets.specs.Texts.{fields_in}
 
 -- the field at a place, counted from 0, has the form of its column's kind
 abbrev pub FitsAt : List Column → List (List ℕ) → ℕ → Type 0
 FitsAt columns fields j = IsOfKind (kind_of (slice_index_or columns j Processors)) (slice_index_or fields j [])
+
+-- the field at a place is the first that has not
+abbrev pub FirstMisfit : List Column → List (List ℕ) → ℕ → Type 0
+FirstMisfit columns fields j =
+    (j < length columns) × ((i : ℕ) → i < j → FitsAt columns fields i) × ¬ FitsAt columns fields j
 
 -- there are as many fields as columns, and each has the form of its kind
 abbrev pub Fits : List Column → List (List ℕ) → Type 0
 Fits columns fields = (length fields ≡ length columns) × ((j : ℕ) → j < length columns → FitsAt columns fields j)
 
 -- the fault is the first of a line with these fields
-abbrev pub Misses : Form → List Column → ℕ → List (List ℕ) → Fault → Type 0
-Misses form columns line fields fault =
-    ((length fields ≡ length columns → ⊥) × (fault ≡ BadFieldCount (place form line 0)))
-    ⊎ ((length fields ≡ length columns) × (j : ℕ) × (fault ≡ BadField (place form line (j + 1))) × (j < length columns) × ((i : ℕ) → i < j → FitsAt columns fields i) × (FitsAt columns fields j → ⊥))
+abbrev pub LineFails : ℕ → List Column → ℕ → List (List ℕ) → Fault → Type 0
+LineFails number columns line fields fault =
+    (¬ (length fields ≡ length columns) × (fault ≡ BadFieldCount (place number line 0)))
+    ⊎ ((length fields ≡ length columns)
+    × (j : ℕ) × (fault ≡ BadField (place number line (j + 1))) × FirstMisfit columns fields j)
 
--- the first n value lines miss nothing
+-- the first n value lines fit
 abbrev pub FirstFit : List Column → List (List ℕ) → ℕ → Type 0
-FirstFit columns lines n = (i : ℕ) → i < n → Fits columns (parts 32 (slice_index_or lines i []))
+FirstFit columns lines n = (i : ℕ) → i < n → Fits columns (fields_in (slice_index_or lines i []))
 
 -- the fault is the first of these value lines, which begin with line 2
-abbrev pub LinesMiss : Form → List Column → List (List ℕ) → Fault → Type 0
-LinesMiss form columns lines fault =
-    ((i : ℕ) × (i < length lines) × FirstFit columns lines i × Misses form columns (i + 2) (parts 32 (slice_index_or lines i [])) fault)
-    ⊎ (FirstFit columns lines (length lines) × (AllowedCount form (length lines) → ⊥) × (fault ≡ BadLineCount (place form (if length lines == 0 then 1 else most_of form + 2) 0)))
+abbrev pub LinesFail : Form → ℕ → List Column → List (List ℕ) → Fault → Type 0
+LinesFail form number columns lines fault =
+    ((i : ℕ) × (i < length lines) × FirstFit columns lines i
+    × LineFails number columns (i + 2) (fields_in (slice_index_or lines i [])) fault)
+    ⊎ (FirstFit columns lines (length lines) × ¬ AllowedCount form (length lines)
+    × (fault ≡ BadLineCount (place number (if length lines == 0 then 1 else most_of form + 2) 0)))
+
+-- reading the value lines: the sheet of all of them, or the first fault; a list may have more columns than the form
+abbrev pub ReadsLines : Form → ℕ → List Column → List (List ℕ) → Result Sheet Fault → Type 0
+ReadsLines form number columns lines read =
+    MatchResult read
+    (λ sheet. (sheet.form ≡ form) × (sheet.number ≡ number) × (sheet.columns ≡ columns)
+    × (lines_of sheet ≡ lines) × FirstFit (first_columns form columns) lines (length lines)
+    × AllowedCount form (length lines))
+    (LinesFail form number (first_columns form columns) lines)

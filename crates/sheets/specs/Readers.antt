@@ -5,4 +5,5 @@ use Rattle.sheets.specs.Texts.{parts}
 
 -- the parts from the reader's place on; past the last part its place is one past the end
 abbrev pub left : Reader → List (List ℕ)
-left r = if nat_le r.at (length r.text.now) then parts r.separator (drop r.at r.text.now) else []
+left reader =
+    if nat_le reader.at (length reader.text.now) then parts reader.separator (drop reader.at reader.text.now) else []

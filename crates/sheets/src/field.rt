@@ -22,7 +22,9 @@ pub(crate) fn is_name(field: &[u8]) -> bool
 
 /// The number that digits write, if they are digits and it is not too great.
 fn digits_value(digits: &[u8]) -> Option<u32>
-    ensures { MatchOption result (All IsDigit digits.now → value digits.now ≤ MOST → ⊥) (λ n. All IsDigit digits.now × (value digits.now ≡ n) × (n ≤ MOST)) }
+    ensures { MatchOption result
+        (All IsDigit digits.now → ¬ (value digits.now ≤ MOST))
+        (λ n. All IsDigit digits.now × (value digits.now ≡ n) × (n ≤ MOST)) }
 {
     let mut n = 0;
     for digit in digits {

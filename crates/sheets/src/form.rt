@@ -2,7 +2,7 @@
 ghost use Rattle.std.specs.Prelude.{◌≡◌, ◌≢◌, MatchOption};
 ghost use Rattle.std.specs.Str.{bytes_eq};
 ghost use Rattle.sheets.specs.declared.form.Column.{Column};
-ghost use Rattle.sheets.specs.Forms.{name_of, kind_of, columns_of, sheet_of, most_of, place};
+ghost use Rattle.sheets.specs.Forms.{name_of, kind_of, columns_of, most_of, place};
 
 use table::fault::Place;
 
@@ -54,10 +54,15 @@ const ESTIMATE: &[u8] = b"estimate";
 /// The most columns that a form may have.
 pub(crate) const MOST_COLUMNS: usize = 8;
 
+/// The most value lines that a sheet may have.
+pub const MOST_LINES: usize = 32;
+
 impl Column {
     /// The column of this name.
     pub(crate) fn named(name: &[u8]) -> Option<Column>
-        ensures { MatchOption result ((c : Column) → name.now ≢ name_of c) (λ c. name.now ≡ name_of c) }
+        ensures { MatchOption result
+            ((column : Column) → name.now ≢ name_of column)
+            (λ column. name.now ≡ name_of column) }
     {
         match name {
             PROCESSORS => Some(Column::Processors),
@@ -107,17 +112,6 @@ impl Column {
 }
 
 impl Form {
-    /// The number of the sheet.
-    pub(crate) fn sheet(self) -> u32
-        ensures { result ≡ sheet_of self }
-    {
-        match self {
-            Form::Board => 1,
-            Form::Tasks => 2,
-            Form::Answer => 3,
-        }
-    }
-
     /// Its columns.
     pub(crate) fn columns(self) -> &'static [Column]
         ensures { result.now ≡ columns_of self }
@@ -135,18 +129,14 @@ impl Form {
     {
         match self {
             Form::Board => 1,
-            Form::Tasks | Form::Answer => 32,
+            Form::Tasks | Form::Answer => MOST_LINES,
         }
     }
+}
 
-    /// A place on a sheet of the form.
-    pub(crate) fn place(self, line: u32, field: u32) -> Place
-        ensures { result ≡ place self line field }
-    {
-        Place {
-            sheet: self.sheet(),
-            line,
-            field,
-        }
-    }
+/// A place on the sheet of this number.
+pub(crate) fn place(sheet: u32, line: u32, field: u32) -> Place
+    ensures { result ≡ place sheet line field }
+{
+    Place { sheet, line, field }
 }

@@ -1,12 +1,12 @@
 // The columns that line 1 names.
-ghost use Rattle.std.specs.Prelude.{◌≡◌, ◌+◌, ◌≤◌, ◌↔◌, ◌∷◌, length, take, All, Contains, IsTrue, IfSome, MatchOption};
-ghost use Rattle.sheets.specs.Forms.{columns_of};
+ghost use Rattle.std.specs.Prelude.{◌≡◌, ◌+◌, ◌≤◌, ◌↔◌, ◌∷◌, length, All, Contains, IsTrue, IfSome, MatchOption};
+ghost use Rattle.sheets.specs.Forms.{columns_of, first_columns};
 ghost use Rattle.sheets.specs.Readers.{left};
-ghost use Rattle.sheets.specs.Texts.{parts};
+ghost use Rattle.sheets.specs.Texts.{fields_in};
 ghost use Rattle.sheets.specs.Reading.{Heads, HasNames};
 
 use crate::form::{Column, Form, MOST_COLUMNS};
-use crate::reader::Reader;
+use crate::reader::{LONGEST, Reader};
 
 // Whether the column is in the list.
 fn has(given: &[Column], column: Column) -> bool
@@ -17,7 +17,8 @@ fn has(given: &[Column], column: Column) -> bool
 
 // Whether the list has as many columns as the form, and each of these.
 fn are_columns(form: Form, given: &[Column]) -> bool
-    ensures { IsTrue result ↔ ((length given.now ≡ length (columns_of form)) × All (Contains given.now) (columns_of form)) }
+    ensures { IsTrue result
+        ↔ ((length given.now ≡ length (columns_of form)) × All (Contains given.now) (columns_of form)) }
 {
     let columns = form.columns();
     given.len() == columns.len() && columns.iter().all(|column| has(given, *column))
@@ -25,8 +26,10 @@ fn are_columns(form: Form, given: &[Column]) -> bool
 
 /// The columns from left to right, if they are the form's, each once; what stands past them is a filler.
 pub(crate) fn columns_named(form: Form, names: &[u8]) -> Option<[Column; MOST_COLUMNS]>
-    requires { length names.now ≤ 4096 }
-    ensures { MatchOption result (HasNames form (parts 32 names.now) → ⊥) (λ columns. Heads form (parts 32 names.now) (take (length (columns_of form)) columns)) }
+    requires { length names.now ≤ LONGEST }
+    ensures { MatchOption result
+        (¬ HasNames form (fields_in names.now))
+        (λ columns. Heads form (fields_in names.now) (first_columns form columns)) }
 {
     let columns = form.columns();
     let mut given = [Column::Task; MOST_COLUMNS];
@@ -45,8 +48,10 @@ pub(crate) fn columns_named(form: Form, names: &[u8]) -> Option<[Column; MOST_CO
 
 /// The columns that the next line names, if they are the form's, each once.
 pub(crate) fn next_columns(form: Form, lines: &mut Reader<'_>) -> Option<[Column; MOST_COLUMNS]>
-    ensures columns { MatchOption result ((names : _) (rest : _) → left lines.old ≡ names ∷ rest → HasNames form (parts 32 names) → ⊥)
-        (λ columns. (names : _) × (left lines.old ≡ names ∷ left lines.new) × Heads form (parts 32 names) (take (length (columns_of form)) columns)) }
+    ensures columns { MatchOption result
+        ((names : _) (rest : _) → left lines.old ≡ names ∷ rest → ¬ HasNames form (fields_in names))
+        (λ columns. (names : _) × (left lines.old ≡ names ∷ left lines.new)
+        × Heads form (fields_in names) (first_columns form columns)) }
     ensures number { IfSome result (λ _. lines.new.number ≡ lines.old.number + 1) }
 {
     let names = lines.next()?;

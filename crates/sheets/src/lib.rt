@@ -1,9 +1,14 @@
 #![tactic(auto)]
 
-pub mod field;
-pub mod form;
+mod field;
+mod form;
 mod heading;
 mod line;
-pub mod pair;
+mod pairing;
 mod reader;
-pub mod sheet;
+mod sheet;
+
+pub use field::Field;
+pub use form::{Column, Form, MOST_LINES};
+pub use pairing::pair;
+pub use sheet::Sheet;

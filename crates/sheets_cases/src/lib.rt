@@ -4,10 +4,7 @@
 
 #[cfg(test)]
 mod tests {
-    use sheets::field::Field;
-    use sheets::form::{Column, Form};
-    use sheets::pair::pair;
-    use sheets::sheet::Sheet;
+    use sheets::{Column, Field, Form, Sheet, pair};
     use std::alloc::{AllocError, Global};
     use std::process::Abort;
     use std::test::Fail;
@@ -47,7 +44,7 @@ mod tests {
         let place = Place { sheet, line, field };
         refused(
             rt,
-            Sheet::read(form, text.as_bytes()),
+            Sheet::read(form, sheet, text.as_bytes()),
             number,
             Layer::Sheet,
             place,
@@ -79,7 +76,7 @@ mod tests {
 
     // The only estimate of an answer sheet.
     fn estimate_in(text: &str) -> Result<Option<u32>, Fail> {
-        let sheet = Sheet::read(Form::Answer, text.as_bytes())?;
+        let sheet = Sheet::read(Form::Answer, 3, text.as_bytes())?;
         number_of(&sheet, 1, Column::Estimate)
     }
 
@@ -97,7 +94,7 @@ mod tests {
     #[test]
     fn reads_the_fields(rt: HostRuntime) -> Result<(), Fail> {
         let text = "wcet task deadline period\n2 a 4 5\n1000000 b-2 0 7\n";
-        let sheet = Sheet::read(Form::Tasks, text.as_bytes())?;
+        let sheet = Sheet::read(Form::Tasks, 2, text.as_bytes())?;
         assert_eq!(rt; sheet.len(), 2);
         let name = field_of(&sheet, 2, Column::Task)?;
         assert!(rt; name.bytes == b"b-2".as_slice());
@@ -124,7 +121,7 @@ mod tests {
 
     #[test]
     fn reads_a_board(rt: HostRuntime) -> Result<(), Fail> {
-        let sheet = Sheet::read(Form::Board, b"test processors overhead\nrta 2 0\n")?;
+        let sheet = Sheet::read(Form::Board, 1, b"test processors overhead\nrta 2 0\n")?;
         assert_eq!(rt; sheet.len(), 1);
         assert!(rt; field_of(&sheet, 1, Column::Test)?.bytes == b"rta".as_slice());
         assert_eq!(rt; number_of(&sheet, 1, Column::Processors)?, Some(2));
@@ -173,7 +170,7 @@ mod tests {
             };
             refused(
                 &rt,
-                Sheet::read(Form::Answer, &text),
+                Sheet::read(Form::Answer, 3, &text),
                 4,
                 Layer::Sheet,
                 place,
@@ -189,10 +186,10 @@ mod tests {
             text.extend_from_slice(b"task estimate\n")?;
             text.extend_from_slice(name.as_bytes())?;
             text.extend_from_slice(b" 1\n")?;
-            let sheet = Sheet::read(Form::Answer, &text)?;
+            let sheet = Sheet::read(Form::Answer, 3, &text)?;
             assert!(rt; field_of(&sheet, 1, Column::Task)?.bytes == name.as_bytes());
         }
-        let digits = Sheet::read(Form::Answer, b"task estimate\n007 1\n")?;
+        let digits = Sheet::read(Form::Answer, 3, b"task estimate\n007 1\n")?;
         assert_eq!(rt; number_of(&digits, 1, Column::Task)?, None);
         no_answer(&rt, "task estimate\nabcdefghij-123456 1\n", 4, 2, 1)?;
         no_answer(&rt, "task estimate\nA 1\n", 4, 2, 1)?;
@@ -223,7 +220,7 @@ mod tests {
         };
         refused(
             &rt,
-            Sheet::read(Form::Answer, &text[..4096]),
+            Sheet::read(Form::Answer, 3, &text[..4096]),
             2,
             Layer::Sheet,
             line_1,
@@ -235,7 +232,7 @@ mod tests {
         };
         refused(
             &rt,
-            Sheet::read(Form::Answer, &text),
+            Sheet::read(Form::Answer, 3, &text),
             1,
             Layer::Sheet,
             nowhere,
@@ -304,7 +301,7 @@ mod tests {
     #[test]
     fn reads_the_most_lines(rt: HostRuntime) -> Result<(), Fail> {
         let text = long_answer(rt.alloc(), 32, "")?;
-        let sheet = Sheet::read(Form::Answer, &text)?;
+        let sheet = Sheet::read(Form::Answer, 3, &text)?;
         assert_eq!(rt; sheet.len(), 32);
         let last = field_of(&sheet, 32, Column::Estimate)?;
         assert_eq!(rt;
@@ -328,7 +325,7 @@ mod tests {
         };
         refused(
             &rt,
-            Sheet::read(Form::Answer, &many),
+            Sheet::read(Form::Answer, 3, &many),
             5,
             Layer::Sheet,
             line_34,
@@ -336,7 +333,7 @@ mod tests {
         let more = long_answer(rt.alloc(), 40, "")?;
         refused(
             &rt,
-            Sheet::read(Form::Answer, &more),
+            Sheet::read(Form::Answer, 3, &more),
             5,
             Layer::Sheet,
             line_34,
@@ -353,7 +350,7 @@ mod tests {
         };
         refused(
             &rt,
-            Sheet::read(Form::Answer, &bad),
+            Sheet::read(Form::Answer, 3, &bad),
             4,
             Layer::Sheet,
             field_2,
@@ -366,7 +363,7 @@ mod tests {
         };
         refused(
             &rt,
-            Sheet::read(Form::Answer, &later),
+            Sheet::read(Form::Answer, 3, &later),
             3,
             Layer::Sheet,
             line_35,
@@ -396,7 +393,7 @@ mod tests {
                         push_line(&mut text, &[names[a], names[b], names[c], names[d]])?;
                         push_line(&mut text, &[values[a], values[b], values[c], values[d]])?;
                         let each_once = a != b && a != c && a != d && b != c && b != d && c != d;
-                        match Sheet::read(Form::Tasks, &text) {
+                        match Sheet::read(Form::Tasks, 2, &text) {
                             Ok(sheet) => {
                                 assert!(rt; each_once);
                                 assert!(rt;
@@ -428,7 +425,7 @@ mod tests {
                     let mut text = Vec::new(rt.alloc());
                     push_line(&mut text, &[names[a], names[b], names[c]])?;
                     push_line(&mut text, &[values[a], values[b], values[c]])?;
-                    let sheet = Sheet::read(Form::Board, &text);
+                    let sheet = Sheet::read(Form::Board, 1, &text);
                     assert_eq!(rt; sheet.is_ok(), a != b && a != c && b != c);
                 }
             }
@@ -438,8 +435,8 @@ mod tests {
 
     // Reads both sheets and pairs them.
     fn paired(tasks: &str, answer: &str) -> Result<[usize; 32], Fault> {
-        let tasks = Sheet::read(Form::Tasks, tasks.as_bytes())?;
-        let answer = Sheet::read(Form::Answer, answer.as_bytes())?;
+        let tasks = Sheet::read(Form::Tasks, 2, tasks.as_bytes())?;
+        let answer = Sheet::read(Form::Answer, 3, answer.as_bytes())?;
         pair(&tasks, &answer)
     }
 
@@ -536,14 +533,41 @@ mod tests {
 
     #[test]
     fn finds_no_names_on_a_board(rt: HostRuntime) -> Result<(), Fail> {
-        let tasks = Sheet::read(Form::Tasks, b"task wcet period deadline\na 2 5 5\n")?;
-        let board = Sheet::read(Form::Board, b"processors overhead test\n2 0 rta\n")?;
+        let tasks = Sheet::read(Form::Tasks, 2, b"task wcet period deadline\na 2 5 5\n")?;
+        let board = Sheet::read(Form::Board, 1, b"processors overhead test\n2 0 rta\n")?;
         let past_last = Place {
             sheet: 1,
             line: 2,
             field: 4,
         };
         refused(&rt, pair(&tasks, &board), 7, Layer::Pair, past_last)
+    }
+
+    #[test]
+    fn keeps_the_number_of_a_sheet(rt: HostRuntime) -> Result<(), Fail> {
+        let names = b"task wcet period deadline\n";
+        let no_value = Place {
+            sheet: 4,
+            line: 1,
+            field: 0,
+        };
+        refused(
+            &rt,
+            Sheet::read(Form::Tasks, 4, names),
+            5,
+            Layer::Sheet,
+            no_value,
+        )?;
+        let twice = b"task wcet period deadline\na 2 5 5\na 2 5 5\n";
+        let tasks = Sheet::read(Form::Tasks, 4, twice)?;
+        let answer = Sheet::read(Form::Answer, 3, b"task estimate\na 2\n")?;
+        let repeated = Place {
+            sheet: 4,
+            line: 3,
+            field: 1,
+        };
+        assert_eq!(rt; field_of(&tasks, 2, Column::Task)?.place, repeated);
+        refused(&rt, pair(&tasks, &answer), 6, Layer::Pair, repeated)
     }
 
     #[test]

@@ -10,4 +10,4 @@ pub returns : goal.returns
 returns c =
     let part = c.in_ok-part.ensures in
     let here = field_here c.args.self.now c.args.k c.args.column c.in_ok-line.line.now c.left_of.result c.in_ok-line.ensures.line c.left_of.ensures.value part.0 c.in_ok-part.part.bytes.now part.1 in
-    (here.0, here.1, c.place.ensures ∙ ap (λ j. place c.args.self.now.form (c.args.k + 1) j) (part.2 ∙ ap (λ n. n + 1) c.left_of.ensures.value))
+    (here.0, here.1, c.place.ensures ∙ ap (λ j. place c.args.self.now.number (c.args.k + 1) j) (part.2 ∙ ap (λ n. n + 1) c.left_of.ensures.value))

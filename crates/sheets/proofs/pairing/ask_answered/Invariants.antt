@@ -1,5 +1,5 @@
 use Rattle.sheets.specs.Pairs.{IsAnswered, EachLine}
-use Rattle.sheets.proofs.pair.ask_answered.Given as goal
+use Rattle.sheets.proofs.pairing.ask_answered.Given as goal
 
 abbrev pub invariant-loop-i : goal.invariant-loop-i
 invariant-loop-i l = EachLine (IsAnswered l.tasks l.answer) l.i

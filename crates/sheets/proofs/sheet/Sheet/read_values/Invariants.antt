@@ -1,16 +1,16 @@
 use Rattle.std.proofs.Common.{◌≡◌, ◌≤◌, ◌+◌, map, length, take, drop}
 use Rattle.std.specs.List.{All}
-use Rattle.sheets.specs.Forms.{columns_of}
+use Rattle.sheets.specs.Forms.{first_columns}
 use Rattle.sheets.specs.Lines.{FirstFit}
 use Rattle.sheets.specs.Readers.{left}
-use Rattle.sheets.proofs.sheet.read.read_values.Given as goal
+use Rattle.sheets.proofs.sheet.Sheet.read_values.Given as goal
 
 abbrev pub invariant-loop-line : goal.invariant-loop-line
 invariant-loop-line l = record {
   rest : drop l.len (left l.fn.lines) ≡ left l.lines;
   within : l.len ≤ length (left l.fn.lines);
   counted : l.lines.number ≡ l.len + 1;
-  fit : FirstFit (take (length (columns_of l.fn.form)) l.fn.given) (left l.fn.lines) l.len;
+  fit : FirstFit (first_columns l.fn.form l.fn.given) (left l.fn.lines) l.len;
   long : length l.kept ≡ 32;
   kept : l.len ≤ 32 → map (λ line. line.now) (take l.len l.kept) ≡ take l.len (left l.fn.lines);
   short : All (λ line. length line.now ≤ 4096) l.kept;

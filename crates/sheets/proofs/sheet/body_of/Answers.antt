@@ -1,7 +1,7 @@
 use Rattle.std.proofs.Common.{◌++◌, ◌∷◌, [], ap, sym, ◌∙◌, arith}
 use Rattle.sheets.proofs.Cuts.{last_byte}
-use Rattle.sheets.proofs.sheet.read.body_of.Goals as goal
-use Rattle.sheets.proofs.sheet.read.body_of.Goals.{else-last-eq10-via-then-last-eq10+else-text-le-LONGEST, else-last-eq10-via-else-last-eq10}
+use Rattle.sheets.proofs.sheet.body_of.Goals as goal
+use Rattle.sheets.proofs.sheet.body_of.Goals.{else-last-eq10-via-then-last-eq10+else-text-le-LONGEST, else-last-eq10-via-else-last-eq10}
 
 pub returns-then-text-le-LONGEST : goal.returns-then-text-le-LONGEST
 returns-then-text-le-LONGEST c =

@@ -4,7 +4,7 @@ use Rattle.table.specs.declared.fault.Fault.TheVariants.{BadAnswer}
 use Rattle.table.specs.Places.{nth}
 use Rattle.sheets.specs.Pairs.{Answers, HasTaskAt, count_of, task_of}
 use Rattle.sheets.proofs.Paired.{each_more, first_line, some_line, no_line, set_here, set_there, all_zero}
-use Rattle.sheets.proofs.pair.rows_named.Goals as goal
+use Rattle.sheets.proofs.pairing.rows_named.Goals as goal
 
 pub loop-i-init : goal.loop-i-init
 loop-i-init c = record {

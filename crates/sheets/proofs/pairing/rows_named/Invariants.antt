@@ -1,7 +1,7 @@
 use Rattle.std.proofs.Common.{◌≡◌, ◌<◌, ℕ, length}
 use Rattle.table.specs.Places.{nth}
 use Rattle.sheets.specs.Pairs.{Answers, EachLine, HasTaskAt, task_of}
-use Rattle.sheets.proofs.pair.rows_named.Given as goal
+use Rattle.sheets.proofs.pairing.rows_named.Given as goal
 
 abbrev pub invariant-loop-i : goal.invariant-loop-i
 invariant-loop-i l = record {
