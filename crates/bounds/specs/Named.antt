@@ -17,11 +17,11 @@ named_answer (ByDeadline t) = da t.processors.count
 named_answer (ByResponse t) = rta t.processors.count
 named_answer (ByLimited t) = lc t.processors.count
 
--- the test is the one of this name, on these processors
-abbrev pub IsNamed : List ℕ → Processors → NamedTest → Type 0
-IsNamed name p (ByDeadline t) = (name ≡ codes "da") × (t.processors ≡ p)
-IsNamed name p (ByResponse t) = (name ≡ codes "rta") × (t.processors ≡ p)
-IsNamed name p (ByLimited t) = (name ≡ codes "lc") × (t.processors ≡ p)
+-- the test is the one of this name, on m processors
+abbrev pub IsNamed : List ℕ → ℕ → NamedTest → Type 0
+IsNamed name m (ByDeadline t) = (name ≡ codes "da") × (t.processors.count ≡ m)
+IsNamed name m (ByResponse t) = (name ≡ codes "rta") × (t.processors.count ≡ m)
+IsNamed name m (ByLimited t) = (name ≡ codes "lc") × (t.processors.count ≡ m)
 
 -- a test has this name
 abbrev pub IsTestName : List ℕ → Type 0
@@ -30,4 +30,4 @@ IsTestName name = (name ≡ codes "da") ⊎ ((name ≡ codes "rta") ⊎ (name �
 -- making the test of a name on so many processors: just that, or a refusal
 abbrev pub MadeNamed : List ℕ → Processors → Result NamedTest Fault → Type 0
 MadeNamed name p r =
-    Asks (IsTestName name) (r ≡ Err (BadTest nowhere)) ((t : NamedTest) × (r ≡ Ok t) × IsNamed name p t)
+    Asks (IsTestName name) (r ≡ Err (BadTest nowhere)) ((t : NamedTest) × (r ≡ Ok t) × IsNamed name p.count t)

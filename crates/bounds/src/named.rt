@@ -1,5 +1,5 @@
 // A test chosen by its name.
-ghost use Rattle.std.specs.Prelude.{◌≡◌};
+ghost use Rattle.std.specs.Prelude.{◌≡◌, ◌↔◌, IsTrue};
 
 use crate::da::Da;
 use crate::lc::Lc;
@@ -18,7 +18,14 @@ pub enum NamedTest {
 }
 
 impl NamedTest {
-    ghost use Rattle.bounds.specs.Named.{MadeNamed};
+    ghost use Rattle.bounds.specs.Named.{IsTestName, MadeNamed};
+
+    /// Whether a test has this name.
+    pub fn has_name(name: &[u8]) -> bool
+        ensures { IsTrue result ↔ IsTestName name.now }
+    {
+        matches!(name, b"da" | b"rta" | b"lc")
+    }
 
     /// The test of this name on so many processors, or a refusal where there is none of the name (12).
     pub fn new(name: &[u8], processors: Processors) -> Result<NamedTest, Fault>

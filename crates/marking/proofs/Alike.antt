@@ -80,7 +80,7 @@ module _ (s t : Sheet) (like : Alike s t) where
   has_task_at name k has = (has.0, subst (λ n. k ≤ n) count has.1, sym (field k Task) ∙ has.2)
 
   has_row : (k : ℕ) → HasRow s k → HasRow t k
-  has_row k row = subst (λ (f : Column → ℕ). IsRow (f Wcet) (f Period) (f Deadline)) (λ i c. number k c i) row
+  has_row k row = subst IsRow (λ i. record { wcet = number k Wcet i; period = number k Period i; deadline = number k Deadline i }) row
 
 -- a name of one sheet stands on another
 has_task : (s t u v : Sheet) → Alike s t → Alike u v → (k : ℕ) → HasTask s (task_of u k) → HasTask t (task_of v k)

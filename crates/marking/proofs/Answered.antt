@@ -1,5 +1,5 @@
 -- The order and the estimates of an answer, and what a check of them gives.
-use Rattle.std.proofs.Common.{◌≡◌, ℕ, ◌+◌, ◌-◌, ◌≤◌, List, length, take, Ok, Err, Some, None, Option, Result, sym, ap, subst, ◌∙◌, arith}
+use Rattle.std.proofs.Common.{◌<◌, ◌≡◌, ℕ, ◌+◌, ◌-◌, ◌≤◌, List, length, take, Ok, Err, Some, None, Option, Result, sym, ap, subst, ◌∙◌, arith}
 use Rattle.std.specs.Option.{IfSome}
 use Rattle.std.proofs.lemmas.List.{length-take, get_or-take}
 use Rattle.table.specs.declared.row.Row.{Row}
@@ -35,13 +35,16 @@ module _ (board tasks answer : Sheet) (own : Case) (case : CaseOf board tasks an
   order_size : length (take n order) ≡ count_of tasks
   order_size = length-take n order ∙ omega (arith, case.pairs.3.size, few, case.once.0)
 
-  answer_order : Order (count_of tasks) (take n order)
+  answer_order : Order (view own.study.table) (take n order)
   answer_order = record {
-    size = order_size;
-    rows = λ p l. let at = row_here tasks answer order case.pairs p (omega (arith, case.once.0)) in
-        let is = get_or-take n order p 0 (omega (arith, case.once.0)) in
-        (omega (arith, is, at.0), omega (arith, is, at.1));
-    apart = λ p q l m is. let same = case.once.1 (p + 1) (q + 1) (omega arith) (omega (arith, case.once.0)) (omega arith) (omega (arith, case.once.0)) (nth_next order p 0 ∙ sym (get_or-take n order p 0 (omega (arith, case.once.0))) ∙ is ∙ get_or-take n order q 0 (omega (arith, case.once.0)) ∙ sym (nth_next order q 0)) in omega (arith, same);
+    size = omega (arith, order_size, case.rows.size);
+    each = λ p l. let at = row_here tasks answer order case.pairs p (omega (arith, case.once.0, case.rows.size)) in
+        let is = get_or-take n order p 0 (omega (arith, case.once.0, case.rows.size)) in
+        (omega (arith, is, at.0), omega (arith, is, at.1, case.rows.size));
+    apart = λ p q l m is.
+        let first : p < n = omega (arith, case.once.0, case.rows.size) in
+        let second : q < n = omega (arith, case.once.0, case.rows.size) in
+        let same = case.once.1 (p + 1) (q + 1) (omega arith) (omega arith) (omega arith) (omega arith) (nth_next order p 0 ∙ sym (get_or-take n order p 0 first) ∙ is ∙ get_or-take n order q 0 second ∙ sym (nth_next order q 0)) in omega (arith, same);
   }
 
   -- the estimate of row k lies from its C to its D
@@ -81,29 +84,28 @@ module _ (board tasks answer : Sheet) (own : Case) (case : CaseOf board tasks an
   rows = view own.study.table
 
   abbrev First : Option Miss → Type 0
-  First miss = FirstMiss board_answer own.test rows (take n order) (take (count_of tasks) estimates) miss
+  First miss = FirstMiss (board_answer own.test) rows (take n order) (take (count_of tasks) estimates) miss
 
   pub miss_row : (miss : Option Miss) → First miss → IfSome miss (λ m. (1 ≤ m.task) × (m.task ≤ count_of tasks))
   miss_row None first = tt
   miss_row (Some m) first =
-      let row = answer_order.rows first.0 (omega (arith, first.1, order_size)) in
-      (omega (arith, row.0, first.2), omega (arith, row.1, first.2))
+      let row = answer_order.each first.0 (omega (arith, first.1, answer_order.size)) in
+      (omega (arith, row.0, first.2), omega (arith, row.1, first.2, case.rows.size))
 
   pub answer_checked : (miss : Option Miss) (o : Outcome) → First miss → OutcomeOf tasks miss o → ChecksAnswer own.test rows tasks answer o
   answer_checked miss o first outcome = record { order = take n order; estimates = take (count_of tasks) estimates; is = is_answer; miss = miss; first = first; outcome = outcome }
 
   -- the check of the answer, of its lists as the code cuts them
-  module _ (some : 1 ≤ count_of tasks) (other : List Row) (a b : ℕ) (r : Result (Option Miss) Fault) (same : other ≡ rows) (x : a ≡ n) (y : b ≡ count_of tasks) (given : Checks board_answer own.test other (take a order) (take b estimates) r) where
-    checks : Checks board_answer own.test rows (take n order) (take (count_of tasks) estimates) r
+  module _ (some : 1 ≤ count_of tasks) (other : List Row) (a b : ℕ) (r : Result (Option Miss) Fault) (same : other ≡ rows) (x : a ≡ n) (y : b ≡ count_of tasks) (given : Checks (board_answer own.test) other (take a order) (take b estimates) r) where
+    checks : Checks (board_answer own.test) rows (take n order) (take (count_of tasks) estimates) r
     checks =
-        subst (λ q. Checks board_answer own.test q (take n order) (take (count_of tasks) estimates) r) same
-        (subst (λ m. Checks board_answer own.test other (take m order) (take (count_of tasks) estimates) r) x
-        (subst (λ m. Checks board_answer own.test other (take a order) (take m estimates) r) y given))
+        subst (λ q. Checks (board_answer own.test) q (take n order) (take (count_of tasks) estimates) r) same
+        (subst (λ m. Checks (board_answer own.test) other (take m order) (take (count_of tasks) estimates) r) x
+        (subst (λ m. Checks (board_answer own.test) other (take a order) (take m estimates) r) y given))
 
     checked : (miss : Option Miss) × (r ≡ Ok miss) × First miss
     checked =
-        let asked : Order (length rows) (take n order) = subst (λ m. Order m (take n order)) (sym case.rows.size) answer_order in
-        let on = (checks.1 (omega (arith, case.rows.size))).1 (asked, answer_estimates) in
+        let on = (checks.1 (omega (arith, case.rows.size))).1 (answer_order, answer_estimates) in
         (on.0, on.1, on.2)
 
     abbrev ok_of : Result (Option Miss) Fault → Option Miss

@@ -95,7 +95,9 @@ one_rows s u same rows others a b =
     let of' = b.each (j + 1) (omega arith) (omega (arith, a.size, same_count s u same)) in
     sym (nth_next rows j filler)
     ∙ same_row (row rows (j + 1)) (row others (j + 1))
-    (of.0 ∙ same_number s u same (j + 1) Wcet ∙ sym of'.0)
-    (of.1 ∙ same_number s u same (j + 1) Period ∙ sym of'.1)
-    (of.2 ∙ same_number s u same (j + 1) Deadline ∙ sym of'.2)
+    (λ i. record {
+      wcet = (of.0 ∙ same_number s u same (j + 1) Wcet ∙ sym of'.0) i;
+      period = (of.1 ∙ same_number s u same (j + 1) Period ∙ sym of'.1) i;
+      deadline = (of.2 ∙ same_number s u same (j + 1) Deadline ∙ sym of'.2) i;
+    })
     ∙ nth_next others j filler)

@@ -4,7 +4,7 @@ use Rattle.std.proofs.lemmas.Bool.{cases_lt, cases_eq}
 use Rattle.table.specs.declared.row.Row.{Row}
 use Rattle.table.specs.Rows.{view}
 use Rattle.table.proofs.View.{few_rows}
-use Rattle.bounds.specs.Questions.{Laws}
+use Rattle.bounds.specs.Questions.{Meaning, Laws}
 use Rattle.bounds.proofs.Padded.{padded_length}
 use Rattle.orders.specs.declared.range.Range.{Range}
 use Rattle.study.specs.declared.finding.Finding.{Finding}
@@ -16,7 +16,8 @@ use Rattle.study.specs.Slots.{slot, put_slot}
 use Rattle.study.specs.Pieces.{piece, pieces, put_slots}
 use Rattle.study.specs.Moments.{Moment, rows_of}
 use Rattle.study.specs.Turns.{lows_of}
-use Rattle.study.specs.Begins.{HasRoom, Begun, whole}
+use Rattle.study.specs.Whole.{whole}
+use Rattle.study.specs.Begins.{HasRoom, Begun}
 use Rattle.study.specs.Steps.{Runs, Leaves, taken_of, Stepped}
 use Rattle.study.proofs.Overs.{Full, put_slot_back, put_slot_other}
 use Rattle.study.proofs.Pieced.{piece_full}
@@ -97,16 +98,16 @@ leaves_alike before after s n m l p before' after' s' n' m' l' p' a b was same c
       waiting = λ i low high. ap (λ x. slot x i) a.pending_list ∙ waiting_slots i low (omega (arith, a.pending)) ∙ sym (ap (λ x. slot x i) b.pending_list);
     }
 
-module _ {T : Type 0} (answer : T → List Row → ℕ → List Bool → List ℕ → Option ℕ) (t : T) where
+module _ (meaning : Meaning) where
   -- a deed needs the taken range only where one is pending
-  with_taken : (rows : List Row) (room : Room) (n m : ℕ) (r q : Range) (d : Deed) → (1 ≤ m → r ≡ q) → Decides answer t rows room n m r d → Decides answer t rows room n m q d
+  with_taken : (rows : List Row) (room : Room) (n m : ℕ) (r q : Range) (d : Deed) → (1 ≤ m → r ≡ q) → Decides meaning rows room n m r d → Decides meaning rows room n m q d
   with_taken rows room n m r q nothing is by = by
-  with_taken rows room n m r q stop is by = subst (λ x. Decides answer t rows room n m x stop) (is by.0) by
-  with_taken rows room n m r q (find f) is by = subst (λ x. Decides answer t rows room n m x (find f)) (is by.0) by
-  with_taken rows room n m r q (kept u) is by = subst (λ x. Decides answer t rows room n m x (kept u)) (is by.0) by
-  with_taken rows room n m r q (split u) is by = subst (λ x. Decides answer t rows room n m x (split u)) (is by.0) by
+  with_taken rows room n m r q stop is by = subst (λ x. Decides meaning rows room n m x stop) (is by.0) by
+  with_taken rows room n m r q (find f) is by = subst (λ x. Decides meaning rows room n m x (find f)) (is by.0) by
+  with_taken rows room n m r q (kept u) is by = subst (λ x. Decides meaning rows room n m x (kept u)) (is by.0) by
+  with_taken rows room n m r q (split u) is by = subst (λ x. Decides meaning rows room n m x (split u)) (is by.0) by
 
-  module _ (laws : Laws answer) (room : Room) (before before' after after' : Moment) (at : KeepsAt answer t before) (at' : KeepsAt answer t before') (runs : Runs room before) (runs' : Runs room before') (was : Alike before before') where
+  module _ (laws : Laws meaning) (room : Room) (before before' after after' : Moment) (at : KeepsAt meaning before) (at' : KeepsAt meaning before') (runs : Runs room before) (runs' : Runs room before') (was : Alike before before') where
     abbrev rows : List Row
     rows = rows_of before
 
@@ -119,22 +120,22 @@ module _ {T : Type 0} (answer : T → List Row → ℕ → List Bool → List �
     abbrev taken : Range
     taken = taken_of before
 
-    sought : Sought answer t rows room n m before.ledger before.pending
+    sought : Sought meaning rows room n m before.ledger before.pending
     sought = at.runs room runs
 
-    sought' : Sought answer t (rows_of before') room before'.study.ledger before'.study.pending before'.ledger before'.pending
+    sought' : Sought meaning (rows_of before') room before'.study.ledger before'.study.pending before'.ledger before'.pending
     sought' = at'.runs room runs'
 
     same_taken : 1 ≤ m → taken_of before' ≡ taken
     same_taken some = ap (slot before'.pending) (sym was.pending) ∙ sym (was.waiting m some (omega arith))
 
     -- what decides the second step's deed decides it at the first
-    moved : (d : Deed) → DecidesAt answer t room before' d → DecidesAt answer t room before d
+    moved : (d : Deed) → DecidesAt meaning room before' d → DecidesAt meaning room before d
     moved d by =
         with_taken rows room n m (taken_of before') taken d same_taken
-        (subst (λ x. Decides answer t rows room n x (taken_of before') d) (sym was.pending)
-        (subst (λ x. Decides answer t rows room x before'.study.pending (taken_of before') d) (sym was.ledger)
-        (subst (λ x. Decides answer t x room before'.study.ledger before'.study.pending (taken_of before') d) (sym was.rows) by)))
+        (subst (λ x. Decides meaning rows room n x (taken_of before') d) (sym was.pending)
+        (subst (λ x. Decides meaning rows room x before'.study.pending (taken_of before') d) (sym was.ledger)
+        (subst (λ x. Decides meaning x room before'.study.ledger before'.study.pending (taken_of before') d) (sym was.rows) by)))
 
     taken_full : 1 ≤ m → Full taken
     taken_full some = slot_full before.pending m some (omega (arith, sought.long_pending, sought.few_waiting))
@@ -145,17 +146,17 @@ module _ {T : Type 0} (answer : T → List Row → ℕ → List Bool → List �
     same_pieces : 1 ≤ m → (u : Range) → pieces taken u (length rows) ≡ pieces (taken_of before') u (length (rows_of before'))
     same_pieces some u = ap (λ x. pieces x u (length rows)) (sym (same_taken some)) ∙ ap (λ (x : List Row). pieces (taken_of before') u (length x)) was.rows
 
-    one_deed_alike : (d : Deed) → DecidesAt answer t room before d → LeavesBy room before d after → LeavesBy room before' d after' → Alike after after'
+    one_deed_alike : (d : Deed) → DecidesAt meaning room before d → LeavesBy room before d after → LeavesBy room before' d after' → Alike after after'
     one_deed_alike nothing by a b = leaves_alike before after _ _ _ _ _ before' after' _ _ _ _ _ a b was (same_state state.None) was.ledger was.pending was.kept was.waiting
     one_deed_alike stop by a b = leaves_alike before after _ _ _ _ _ before' after' _ _ _ _ _ a b was (same_state state.Stopped) was.ledger was.pending was.kept was.waiting
     one_deed_alike (find f) by a b = leaves_alike before after _ _ _ _ _ before' after' _ _ _ _ _ a b was (same_state (state.Found f)) was.ledger was.pending was.kept was.waiting
     one_deed_alike (kept r) by a b =
-        let full = grown_full answer t rows taken (taken_full by.0) by.2 in
+        let full = grown_full meaning rows taken (taken_full by.0) by.2 in
         leaves_alike before after _ _ _ _ _ before' after' _ _ _ _ _ a b was (same_state (state.Running room)) (ap (λ x. x + 1) was.ledger) (ap (λ x. x - 1) was.pending)
         (ledger_alike r full by.3) (λ i low high. was.waiting i low (omega arith))
     one_deed_alike (split u) by a b =
         let full = taken_full by.0 in
-        let full_u = grown_full answer t rows (lows_of taken) (record { lows = full.lows; highs = full.lows }) by.3 in
+        let full_u = grown_full meaning rows (lows_of taken) (record { lows = full.lows; highs = full.lows }) by.3 in
         let ps = pieces taken u (length rows) in
         let p' = before'.pending in
         let m' = before'.study.pending in
@@ -167,16 +168,16 @@ module _ {T : Type 0} (answer : T → List Row → ℕ → List Bool → List �
         (ledger_alike u full_u by.4)
         (subst (λ x. SameSlots (m - 1 + length ps) (put_slots before.pending m ps) (put_slots p' m' x)) is waits)
 
-    deeds_alike : (d e : Deed) → SameDeed (length rows) d e → DecidesAt answer t room before d → LeavesBy room before d after → LeavesBy room before' e after' → Alike after after'
+    deeds_alike : (d e : Deed) → SameDeed (length rows) d e → DecidesAt meaning room before d → LeavesBy room before d after → LeavesBy room before' e after' → Alike after after'
     deeds_alike d e (same_deed x) by a b = one_deed_alike x by a b
     deeds_alike d e (other_places f g both) by a b = leaves_alike before after _ _ _ _ _ before' after' _ _ _ _ _ a b was (same_found f g both) was.ledger was.pending was.kept was.waiting
 
     -- steps from alike moments lead to alike ones
-    pub step_alike : Stepped answer t room before after → Stepped answer t room before' after' → Alike after after'
+    pub step_alike : Stepped meaning room before after → Stepped meaning room before' after' → Alike after after'
     step_alike stepped stepped' =
-        let one = deed_of answer t room before after stepped in
-        let two = deed_of answer t room before' after' stepped' in
-        let deeds = one_deed answer t laws rows (few_rows before.study.table) room n m taken (λ some. (sought.waiting m some (omega arith)).0) one.0 two.0 one.1 (moved two.0 two.1) in
+        let one = deed_of meaning room before after stepped in
+        let two = deed_of meaning room before' after' stepped' in
+        let deeds = one_deed meaning laws rows (few_rows before.study.table) room n m taken (λ some. (sought.waiting m some (omega arith)).0) one.0 two.0 one.1 (moved two.0 two.1) in
         deeds_alike one.0 two.0 deeds one.1 one.2 two.2
 
 same_room : (a b : Room) → a.ledger ≡ b.ledger → a.pending ≡ b.pending → a ≡ b

@@ -20,13 +20,14 @@ use Rattle.marking.proofs.Answered.{nth_taken}
 use Rattle.marking.proofs.Claimed.{one_row}
 use Rattle.marking.proofs.DeterminedSheets.{SameSheet, same_field}
 use Rattle.marking.proofs.DeterminedCases.{same_number, same_count}
+use Rattle.bounds.specs.Questions.{Meaning}
 
-module _ {T : Type 0} (answer : T → List Row → ℕ → List Bool → List ℕ → Option ℕ) (t : T) (rows : List Row) (order estimates : List ℕ) where
+module _ (meaning : Meaning) (rows : List Row) (order estimates : List ℕ) where
   same_miss : (a b : Miss) → a.task ≡ b.task → a.bound ≡ b.bound → a ≡ b
   same_miss a b p q = λ i. record { task = p i; bound = q i }
 
   -- there is one first miss
-  pub one_miss : (a b : Option Miss) → FirstMiss answer t rows order estimates a → FirstMiss answer t rows order estimates b → a ≡ b
+  pub one_miss : (a b : Option Miss) → FirstMiss meaning rows order estimates a → FirstMiss meaning rows order estimates b → a ≡ b
   one_miss None None x y = refl
   one_miss None (Some b) x y = absurd (y.4 (x y.0 y.1))
   one_miss (Some a) None x y = absurd (x.4 (y x.0 x.1))
@@ -36,7 +37,7 @@ module _ {T : Type 0} (answer : T → List Row → ℕ → List Bool → List �
       | inl less ↦ absurd (misses' (above q less))
       | inr not_more ↦
           let same : p ≡ q = omega arith in
-          ap Some (same_miss a b (sym task ∙ ap (λ k. get_or order k 0) same ∙ task') (sym bound ∙ ap (λ k. answer_with answer t rows order (padded estimates) k) same ∙ bound'))
+          ap Some (same_miss a b (sym task ∙ ap (λ k. get_or order k 0) same ∙ task') (sym bound ∙ ap (λ k. answer_with meaning rows order (padded estimates) k) same ∙ bound'))
     ]
   ]
 

@@ -97,7 +97,7 @@ module _ (x y z : List ℕ) (r q : Report) (one : Marked x y z r) (two : Marked 
       let search' = two.reports.searched in
       let rows : rows_of search.first ≡ rows_of search'.first = ap (λ (s : Study). view s.table) search.begins ∙ same_rows ∙ sym (ap (λ (s : Study). view s.table) search'.begins) in
       searched_alike one.test slots search.first search'.first search.room search'.room rows search.last search'.last search.searched
-      (subst (λ t. Searched board_answer t slots search'.first search'.last) (sym same_test) search'.searched)
+      (subst (λ t. Searched (board_answer t) slots search'.first search'.last) (sym same_test) search'.searched)
 
   -- what two reports on three texts show of the search is the same
   pub same_shown : SameShown r q
@@ -118,12 +118,12 @@ module _ (x y z : List ℕ) (r q : Report) (one : Marked x y z r) (two : Marked 
       let few : count_of one.tasks ≤ 32 = omega (arith, few_rows one.reports.before.table, one.reports.rows.size) in
       let order : own.order ≡ other.order = one_order one.tasks two.tasks one.answer two.answer same_tasks same_answer one.paired few own.order other.order own.estimates other.estimates own.is other.is in
       let estimates : own.estimates ≡ other.estimates = one_estimates one.tasks two.tasks one.answer two.answer same_tasks same_answer one.paired few own.order other.order own.estimates other.estimates own.is other.is in
-      let first : FirstMiss board_answer one.test rows own.order own.estimates other.miss =
-      subst (λ t. FirstMiss board_answer t rows own.order own.estimates other.miss) (sym same_test)
-      (subst (λ x. FirstMiss board_answer two.test x own.order own.estimates other.miss) (sym same_rows)
-      (subst (λ x. FirstMiss board_answer two.test (view two.reports.before.table) x own.estimates other.miss) (sym order)
-      (subst (λ x. FirstMiss board_answer two.test (view two.reports.before.table) other.order x other.miss) (sym estimates) other.first))) in
-      let miss : own.miss ≡ other.miss = one_miss board_answer one.test rows own.order own.estimates own.miss other.miss own.first first in
+      let first : FirstMiss (board_answer one.test) rows own.order own.estimates other.miss =
+      subst (λ t. FirstMiss (board_answer t) rows own.order own.estimates other.miss) (sym same_test)
+      (subst (λ x. FirstMiss (board_answer two.test) x own.order own.estimates other.miss) (sym same_rows)
+      (subst (λ x. FirstMiss (board_answer two.test) (view two.reports.before.table) x own.estimates other.miss) (sym order)
+      (subst (λ x. FirstMiss (board_answer two.test) (view two.reports.before.table) other.order x other.miss) (sym estimates) other.first))) in
+      let miss : own.miss ≡ other.miss = one_miss (board_answer one.test) rows own.order own.estimates own.miss other.miss own.first first in
       outcome_alike one.tasks two.tasks same_tasks own.miss r.outcome q.outcome own.outcome (subst (λ x. OutcomeOf two.tasks x q.outcome) (sym miss) other.outcome)
 
   pub one_report : SameReport r q

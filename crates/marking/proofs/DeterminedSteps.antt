@@ -3,7 +3,7 @@ use Rattle.std.proofs.Common.{◌≡◌, ℕ, ◌+◌, ◌-◌, ◌≤◌, ◌<�
 use Rattle.std.proofs.lemmas.Option.{same_Some}
 use Rattle.table.specs.declared.row.Row.{Row}
 use Rattle.table.specs.Places.{nth}
-use Rattle.bounds.specs.Questions.{Laws}
+use Rattle.bounds.specs.Questions.{Meaning, Laws}
 use Rattle.orders.specs.declared.range.Range.{Range}
 use Rattle.orders.specs.Ranges.{Within, Open, Closed}
 use Rattle.orders.proofs.Narrows.{widening}
@@ -82,25 +82,25 @@ LeavesBy room before d after =
     Leaves before (state_after room d) (ledger_after before.study.ledger d) (pending_after (rows_of before) (taken_of before) before.study.pending d)
     (ledger_list_after before d) (pending_list_after (rows_of before) (taken_of before) before.study.pending before.pending d) after
 
-module _ {T : Type 0} (answer : T → List Row → ℕ → List Bool → List ℕ → Option ℕ) (t : T) where
+module _ (meaning : Meaning) where
   -- why a step stops: no slot is left
   pub data Lacks (rows : List Row) (room : Room) (n m : ℕ) (taken : Range) : Type 0 where
-    lacks_ledger : Closed answer t rows taken → room.ledger ≤ n → Lacks rows room n m taken
-    lacks_either : (u : Range) → Open answer t rows taken → Closed answer t rows (lows_of taken) → GrowsTo answer t rows (lows_of taken) u → (room.ledger ≤ n) ⊎ (room.pending < m - 1 + count_of_pieces rows taken u) → Lacks rows room n m taken
+    lacks_ledger : Closed meaning rows taken → room.ledger ≤ n → Lacks rows room n m taken
+    lacks_either : (u : Range) → Open meaning rows taken → Closed meaning rows (lows_of taken) → GrowsTo meaning rows (lows_of taken) u → (room.ledger ≤ n) ⊎ (room.pending < m - 1 + count_of_pieces rows taken u) → Lacks rows room n m taken
 
   -- what decides a deed: the rows, the room, both counts and the range that is taken
   abbrev pub Decides : List Row → Room → ℕ → ℕ → Range → Deed → Type 0
   Decides rows room n m taken nothing = m ≡ 0
   Decides rows room n m taken stop = (1 ≤ m) × Lacks rows room n m taken
-  Decides rows room n m taken (find f) = (1 ≤ m) × Open answer t rows (lows_of taken) × Finds answer t rows taken f
-  Decides rows room n m taken (kept r) = (1 ≤ m) × Closed answer t rows taken × GrowsTo answer t rows taken r × (n < room.ledger)
-  Decides rows room n m taken (split u) = (1 ≤ m) × Open answer t rows taken × Closed answer t rows (lows_of taken) × GrowsTo answer t rows (lows_of taken) u × (n < room.ledger) × (m - 1 + count_of_pieces rows taken u ≤ room.pending)
+  Decides rows room n m taken (find f) = (1 ≤ m) × Open meaning rows (lows_of taken) × Finds meaning rows taken f
+  Decides rows room n m taken (kept r) = (1 ≤ m) × Closed meaning rows taken × GrowsTo meaning rows taken r × (n < room.ledger)
+  Decides rows room n m taken (split u) = (1 ≤ m) × Open meaning rows taken × Closed meaning rows (lows_of taken) × GrowsTo meaning rows (lows_of taken) u × (n < room.ledger) × (m - 1 + count_of_pieces rows taken u ≤ room.pending)
 
   abbrev pub DecidesAt : Room → Moment → Deed → Type 0
   DecidesAt room m d = Decides (rows_of m) room m.study.ledger m.study.pending (taken_of m) d
 
   -- a step has a deed
-  pub deed_of : (room : Room) (before after : Moment) → Stepped answer t room before after → (d : Deed) × DecidesAt room before d × LeavesBy room before d after
+  pub deed_of : (room : Room) (before after : Moment) → Stepped meaning room before after → (d : Deed) × DecidesAt room before d × LeavesBy room before d after
   deed_of room before after (none empty ends) = (nothing, empty, ends)
   deed_of room before after (keeps r some closed grows has leaves) = (kept r, (some, closed, grows, has), leaves)
   deed_of room before after (keep_stops some closed lacks ends) = (stop, (some, lacks_ledger closed lacks), ends)
@@ -108,20 +108,20 @@ module _ {T : Type 0} (answer : T → List Row → ℕ → List Bool → List �
   deed_of room before after (splits u some opens closed grows has few leaves) = (split u, (some, opens, closed, grows, has, few), leaves)
   deed_of room before after (split_stops u some opens closed grows lacks ends) = (stop, (some, lacks_either u opens closed grows lacks), ends)
 
-  module _ (laws : Laws answer) (rows : List Row) (few : length rows ≤ 32) (room : Room) (n m : ℕ) (taken : Range) (within : 1 ≤ m → Within rows taken) where
+  module _ (laws : Laws meaning) (rows : List Row) (few : length rows ≤ 32) (room : Room) (n m : ℕ) (taken : Range) (within : 1 ≤ m → Within rows taken) where
     abbrev By : Deed → Type 0
     By = Decides rows room n m taken
 
     -- where the list of its lows is open, a range is
-    wide : 1 ≤ m → Open answer t rows (lows_of taken) → Open answer t rows taken
+    wide : 1 ≤ m → Open meaning rows (lows_of taken) → Open meaning rows taken
     wide some (order, admits) =
         let lies = within some in
-        (order, widening laws t rows few taken (lows_of taken) lies (lows_within rows taken lies) (λ k names. (omega arith, (lies k names).1)) order admits)
+        (order, widening laws rows few taken (lows_of taken) lies (lows_within rows taken lies) (λ k names. (omega arith, (lies k names).1)) order admits)
 
-    clash : (r : Range) → Closed answer t rows r → Open answer t rows r → ⊥
+    clash : (r : Range) → Closed meaning rows r → Open meaning rows r → ⊥
     clash r closed (order, admits) = closed order admits
 
-    one_finding : 1 ≤ m → (f g : Finding) → Finds answer t rows taken f → Finds answer t rows taken g → SameFinding (length rows) f g
+    one_finding : 1 ≤ m → (f g : Finding) → Finds meaning rows taken f → Finds meaning rows taken g → SameFinding (length rows) f g
     one_finding some f g a b =
         let lies = lows_within rows taken (within some) in
         let is : take (length rows) f.order ≡ take (length rows) g.order = same_Some _ _ (sym (a.0.1 lies).0 ∙ (b.0.1 lies).0) in
@@ -142,7 +142,7 @@ module _ {T : Type 0} (answer : T → List Row → ℕ → List Bool → List �
     not_split u (lacks_ledger closed lacks) (some, opens, closed', grows, has, enough) = clash taken closed opens
     not_split u (lacks_either v opens closed grows lacks) (some, opens', closed', grows', has, enough) = elim lacks [
       | inl no_ledger ↦ omega (arith, no_ledger, has)
-      | inr no_pending ↦ omega (arith, enough, subst (λ x. room.pending < m - 1 + count_of_pieces rows taken x) (one_growth answer t rows (lows_of taken) grows grows') no_pending)
+      | inr no_pending ↦ omega (arith, enough, subst (λ x. room.pending < m - 1 + count_of_pieces rows taken x) (one_growth meaning rows (lows_of taken) grows grows') no_pending)
     ]
 
     -- what decides them decides one
@@ -165,10 +165,10 @@ module _ {T : Type 0} (answer : T → List Row → ℕ → List Bool → List �
     one_deed (kept r) nothing a b = absurd (omega (arith, b, a.0))
     one_deed (kept r) stop a b = absurd (not_kept r b.1 a)
     one_deed (kept r) (find g) a b = absurd (clash taken a.1 (wide b.0 b.1))
-    one_deed (kept r) (kept q) a b = subst (λ x. SameDeed (length rows) (kept r) (kept x)) (one_growth answer t rows taken a.2 b.2) (same_deed (kept r))
+    one_deed (kept r) (kept q) a b = subst (λ x. SameDeed (length rows) (kept r) (kept x)) (one_growth meaning rows taken a.2 b.2) (same_deed (kept r))
     one_deed (kept r) (split v) a b = absurd (clash taken a.1 b.1)
     one_deed (split u) nothing a b = absurd (omega (arith, b, a.0))
     one_deed (split u) stop a b = absurd (not_split u b.1 a)
     one_deed (split u) (find g) a b = absurd (clash (lows_of taken) a.2 b.1)
     one_deed (split u) (kept q) a b = absurd (clash taken b.1 a.1)
-    one_deed (split u) (split v) a b = subst (λ x. SameDeed (length rows) (split u) (split x)) (one_growth answer t rows (lows_of taken) a.3 b.3) (same_deed (split u))
+    one_deed (split u) (split v) a b = subst (λ x. SameDeed (length rows) (split u) (split x)) (one_growth meaning rows (lows_of taken) a.3 b.3) (same_deed (split u))

@@ -4,7 +4,7 @@ use Rattle.std.specs.List.{Contains}
 use Rattle.sheets.specs.declared.form.Column.{Column}
 use Rattle.sheets.specs.declared.form.Form.{Form}
 use Rattle.sheets.specs.declared.form.Form.TheVariants.{Board, Tasks, Answer}
-use Rattle.sheets.specs.declared.form.Column.TheVariants.{Overhead, Test, Task, Wcet, Period, Deadline, Estimate}
+use Rattle.sheets.specs.declared.form.Column.TheVariants.{Processors, Overhead, Test, Task, Wcet, Period, Deadline, Estimate}
 use Rattle.sheets.specs.declared.sheet.Sheet.{Sheet}
 use Rattle.sheets.specs.Forms.{kind_of, columns_of}
 use Rattle.sheets.specs.Fields.{Writes}
@@ -15,6 +15,9 @@ use Rattle.marking.specs.Questions.{number_under, HasNumber}
 
 pub test_there : Contains (columns_of Board) Test
 test_there = (2, omega arith, refl)
+
+pub processors_there : Contains (columns_of Board) Processors
+processors_there = (0, omega arith, refl)
 
 pub overhead_there : Contains (columns_of Board) Overhead
 overhead_there = (1, omega arith, refl)

@@ -3,12 +3,11 @@ use Rattle.std.proofs.Common.{◌≡◌, ℕ, ◌+◌, ◌-◌, ◌<◌, ◌≤�
 use Rattle.std.proofs.lemmas.List.{get_or-set_same, get_or-set_other, get_or-take}
 use Rattle.table.specs.Places.{nth}
 use Rattle.table.proofs.Placed.{nth_at, nth_next}
-use Rattle.bounds.specs.Orders.{Order}
 use Rattle.study.specs.declared.finding.Finding.{Finding}
 use Rattle.sheets.specs.declared.sheet.Sheet.{Sheet}
-use Rattle.sheets.specs.Pairs.{task_of}
+use Rattle.sheets.specs.Pairs.{count_of, task_of}
 use Rattle.sheets.proofs.Paired.{each_more}
-use Rattle.marking.specs.Reports.{LevelsOf, BlankPast}
+use Rattle.marking.specs.Reports.{IsOfLines, LevelsOf, BlankPast}
 
 module _ {A : Type 0} (xs : List A) (i : ℕ) (a d : A) where
   nth_here : i < length xs → nth (set xs i a) (i + 1) d ≡ a
@@ -33,6 +32,6 @@ module _ (tasks : Sheet) (f : Finding) (i : ℕ) (names : List (List ℕ)) (esti
 pub no_levels : (tasks : Sheet) (f : Finding) (names : List (List ℕ)) (estimates : List ℕ) → LevelsOf tasks f 0 names estimates
 no_levels tasks f names estimates = record { named = λ k low high. absurd (omega arith); estimated = λ k low high. absurd (omega arith) }
 
--- a task of an order is a row
-pub task_row : (n : ℕ) (order : List ℕ) → Order n (take n order) → (i : ℕ) → i < n → (1 ≤ get_or order i 0) × (get_or order i 0 ≤ n)
-task_row n order each i inside = subst (λ k. (1 ≤ k) × (k ≤ n)) (get_or-take n order i 0 inside) (each.rows i inside)
+-- a task of an order of value lines is one
+pub task_row : (tasks : Sheet) (order : List ℕ) → IsOfLines tasks order → (i : ℕ) → i < count_of tasks → (1 ≤ get_or order i 0) × (get_or order i 0 ≤ count_of tasks)
+task_row tasks order each i inside = subst (λ k. (1 ≤ k) × (k ≤ count_of tasks)) (nth_next order i 0) (each (i + 1) (omega arith) (omega arith))

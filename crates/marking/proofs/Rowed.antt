@@ -1,5 +1,5 @@
 -- A study to which the rows of a sheet are added, line by line.
-use Rattle.std.proofs.Common.{◌≡◌, ℕ, ◌+◌, ◌<◌, ◌≤◌, ◌⊎◌, List, [], ◌∷◌, ◌++◌, length, get_or, true, false, Result, sym, ap, subst, ◌∙◌, inl, inr, arith}
+use Rattle.std.proofs.Common.{◌≡◌, ℕ, ◌+◌, ◌<◌, ◌≤◌, ◌⊎◌, List, [], ◌∷◌, ◌++◌, length, get_or, true, false, Ok, Err, Result, MatchResult, sym, ap, subst, ◌∙◌, inl, inr, arith}
 use Rattle.std.specs.Result.{is_err}
 use Rattle.std.proofs.lemmas.Bool.{cases_lt, false≢true}
 use Rattle.std.proofs.lemmas.List.{length-append, get_or_append_left, get_or-append-add}
@@ -8,34 +8,53 @@ use Rattle.table.specs.declared.fault.Fault.{Fault}
 use Rattle.table.specs.declared.fault.Place.{Place}
 use Rattle.sheets.specs.Forms.{place}
 use Rattle.table.specs.Places.{nth}
-use Rattle.table.specs.Rows.{IsRow, Of, row, filler, view, Adds}
+use Rattle.table.specs.declared.numbers.Numbers.{Numbers}
+use Rattle.table.specs.Asking.{Refuses}
+use Rattle.table.specs.Rows.{Table, IsRow, Of, MadeRow, MakesRow, row, filler, view, Adds}
+use Rattle.table.proofs.Asked.{ok_err}
 use Rattle.table.proofs.Placed.{nth_at, nth_next}
 use Rattle.study.specs.declared.study.Study.{Study}
 use Rattle.study.specs.declared.edit.Edit.TheVariants.{Add}
 use Rattle.study.specs.Calls.{IsNew, Edits}
 use Rattle.study.specs.Histories.{start, edit, none_begun, other}
-use Rattle.sheets.specs.declared.form.Column.TheVariants.{Wcet, Period, Deadline}
 use Rattle.sheets.specs.declared.sheet.Sheet.{Sheet}
 use Rattle.sheets.specs.Pairs.{EachLine}
 use Rattle.sheets.proofs.Paired.{each_more}
-use Rattle.marking.specs.Questions.{number_under, HasRow}
+use Rattle.marking.specs.Questions.{numbers_at, HasRow}
 use Rattle.marking.specs.Reports.{RowsOf, HasHistory}
 
--- three numbers make a row or make none
-row_or_none : (c t d : ℕ) → IsRow c t d ⊎ (IsRow c t d → ⊥)
-row_or_none c t d = elim (cases_lt c 1) [
+-- numbers make a row or make none
+row_or_none : (n : Numbers) → IsRow n ⊎ ¬ IsRow n
+row_or_none n = elim (cases_lt n.wcet 1) [
   | inl a ↦ inr (λ h. omega (arith, h.0))
-  | inr a ↦ elim (cases_lt d c) [
+  | inr a ↦ elim (cases_lt n.deadline n.wcet) [
     | inl b ↦ inr (λ h. omega (arith, h.1))
-    | inr b ↦ elim (cases_lt t d) [
+    | inr b ↦ elim (cases_lt n.period n.deadline) [
       | inl e ↦ inr (λ h. omega (arith, h.2))
-      | inr e ↦ elim (cases_lt 1000000 t) [
+      | inr e ↦ elim (cases_lt 1000000 n.period) [
         | inl f ↦ inr (λ h. omega (arith, h.3))
         | inr f ↦ inl (a, b, e, f)
       ]
     ]
   ]
 ]
+
+-- what a call does that makes a row of numbers, and adds it
+abbrev Goes : Table → Result (Unit {0}) Fault → Table → Result Row Fault → Type 0
+Goes t r t' made = MatchResult made (λ row. (r ≡ Ok tt) × (view t' ≡ view t ++ row ∷ [])) (λ fault. Refuses {A = Unit {0}} fault t r t')
+
+-- it is refused only where the numbers make no row
+not_made : (t t' : Table) (n : Numbers) (r : Result (Unit {0}) Fault) (made : Result Row Fault) → MadeRow n made → Goes t r t' made → is_err r ≡ true → ¬ IsRow n
+not_made t t' n r (Ok row) is goes bad has = false≢true (sym (ap is_err goes.0) ∙ bad)
+not_made t t' n r (Err fault) is goes bad has = ok_err _ _ (sym (is.1 has).1)
+
+-- and otherwise has added it
+was_made : (t t' : Table) (n : Numbers) (r : Result (Unit {0}) Fault) (made : Result Row Fault) → MadeRow n made → Goes t r t' made → is_err r ≡ false → IsRow n × ((new : Row) × Of new n × (view t' ≡ view t ++ new ∷ []))
+was_made t t' n r (Ok row) is goes good = elim (row_or_none n) [
+  | inl has ↦ let new = is.1 has in let same : row ≡ new.0 = (let e = new.1 in cc) in (has, (new.0, new.2, subst (λ x. view t' ≡ view t ++ x ∷ []) same goes.1))
+  | inr none ↦ absurd (ok_err row _ (is.0 none))
+]
+was_made t t' n r (Err fault) is goes good = absurd (false≢true (sym good ∙ ap is_err goes.0))
 
 -- a place with its field put to 0
 pub whole_place : (p q : Place) (sheet k j : ℕ) → (p.sheet ≡ q.sheet) × (p.line ≡ q.line) × (p.field ≡ 0) → q ≡ place sheet k j → p ≡ place sheet k 0
@@ -54,7 +73,7 @@ nth_new : (rows : List Row) (new : Row) (i : ℕ) → length rows ≡ i → nth 
 nth_new rows new i size = nth_next (rows ++ new ∷ []) i filler ∙ ap (λ j. get_or (rows ++ new ∷ []) j filler) (let e : i ≡ length rows + 0 = omega arith in e) ∙ get_or-append-add rows (new ∷ []) 0 filler
 
 abbrev OfLine : Sheet → ℕ → Row → Type 0
-OfLine tasks k r = Of r (number_under tasks k Wcet) (number_under tasks k Period) (number_under tasks k Deadline)
+OfLine tasks k r = Of r (numbers_at tasks k)
 
 one_more_row : (tasks : Sheet) (i : ℕ) (rows : List Row) (new : Row) → RowsOf tasks i rows → OfLine tasks (i + 1) new → (after : List Row) → after ≡ rows ++ new ∷ [] → RowsOf tasks (i + 1) after
 one_more_row tasks i rows new old of after is = record {
@@ -64,31 +83,23 @@ one_more_row tasks i rows new old of after is = record {
       (subst (OfLine tasks (i + 1)) (sym (ap (λ l. row l (i + 1)) is ∙ nth_new rows new i old.size)) of);
 }
 
-module _ (tasks : Sheet) (i : ℕ) (few : i < 32) (s after : Study) (w p d : ℕ) (ws : w ≡ number_under tasks (i + 1) Wcet) (ps : p ≡ number_under tasks (i + 1) Period) (ds : d ≡ number_under tasks (i + 1) Deadline) (r : Result (Unit {0}) Fault) (edits : Edits (λ t r u. Adds t w p d r u) s r after) (rows : RowsOf tasks i (view s.table)) where
-  moved : IsRow w p d → HasRow tasks (i + 1)
-  moved is = (omega (arith, is.0), omega (arith, is.1), omega (arith, is.2), omega (arith, is.3))
-
-  back : HasRow tasks (i + 1) → IsRow w p d
-  back is = (omega (arith, is.0), omega (arith, is.1), omega (arith, is.2), omega (arith, is.3))
-
-  refuses : (IsRow w p d → ⊥) → is_err r ≡ true
-  refuses none = ap is_err ((edits.0.1 (omega (arith, rows.size))).0 none).0
+module _ (tasks : Sheet) (i : ℕ) (few : i < 32) (s after : Study) (n : Numbers) (is : n ≡ numbers_at tasks (i + 1)) (r : Result (Unit {0}) Fault) (edits : Edits (λ t r u. Adds t n r u) s r after) (rows : RowsOf tasks i (view s.table)) where
+  abbrev makes : MakesRow n (λ fault. Refuses {A = Unit {0}} fault s.table r after.table) (λ row. (r ≡ Ok tt) × (view after.table ≡ view s.table ++ row ∷ []))
+  makes = edits.0.1 (omega (arith, rows.size))
 
   -- a line whose row is refused has none
-  pub no_row : is_err r ≡ true → HasRow tasks (i + 1) → ⊥
-  no_row bad has = let on = (edits.0.1 (omega (arith, rows.size))).1 (back has) in false≢true (sym (ap is_err on.2.0) ∙ bad)
+  pub no_row : is_err r ≡ true → ¬ HasRow tasks (i + 1)
+  no_row bad has = not_made s.table after.table n r makes.0 makes.1 makes.2 bad (subst IsRow (sym is) has)
 
   module _ (good : is_err r ≡ false) where
-    makes : IsRow w p d
-    makes = elim (row_or_none w p d) [ inl is ↦ is | inr none ↦ absurd (false≢true (sym good ∙ refuses none)) ]
+    abbrev added : IsRow n × ((new : Row) × Of new n × (view after.table ≡ view s.table ++ new ∷ []))
+    added = was_made s.table after.table n r makes.0 makes.1 makes.2 good
 
     pub row_more : EachLine (HasRow tasks) i → EachLine (HasRow tasks) (i + 1)
-    row_more each = each_more (HasRow tasks) i each (moved makes)
+    row_more each = each_more (HasRow tasks) i each (subst IsRow is added.0)
 
     pub rows_more : RowsOf tasks (i + 1) (view after.table)
-    rows_more =
-        let on = (edits.0.1 (omega (arith, rows.size))).1 makes in
-        one_more_row tasks i (view s.table) on.0 rows (on.1.0 ∙ ws, on.1.1 ∙ ps, on.1.2 ∙ ds) (view after.table) on.2.1
+    rows_more = let new = added.1 in one_more_row tasks i (view s.table) new.0 rows (subst (Of new.0) is new.1) (view after.table) new.2
 
   pub history_more : HasHistory s → HasHistory after
-  history_more history t l q = let h = history t l q in (other h.0, edit h.1 (Add w p d) r after edits)
+  history_more history t l q = let h = history t l q in (other h.0, edit h.1 (Add n) r after edits)

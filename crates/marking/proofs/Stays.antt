@@ -2,7 +2,7 @@
 use Rattle.std.proofs.Common.{◌≡◌, ℕ, ◌-◌, ◌≤◌, List, [], length, take, refl, sym, ap, subst, ◌∙◌, arith}
 use Rattle.std.specs.Option.{IfSome}
 use Rattle.table.specs.declared.row.Row.{Row}
-use Rattle.table.specs.declared.rows.Table.{Table}
+use Rattle.table.specs.Rows.{Table}
 use Rattle.table.specs.Places.{nth}
 use Rattle.table.proofs.Placed.{nth_at}
 use Rattle.table.specs.Rows.{view}
@@ -30,13 +30,13 @@ use Rattle.marking.proofs.Answered.{nth_taken}
 use Rattle.marking.specs.declared.report.Report.{Report}
 use Rattle.marking.specs.declared.report.Verdict.{Verdict}
 use Rattle.marking.specs.declared.report.Verdict.TheVariants as verdict
-use Rattle.marking.specs.Reports.{board_answer, RowsOf, SearchedTo, ShowsStudy, LevelsOf, LevelsIn, verdict_of, names_of, ShowsOrder, Promises}
+use Rattle.marking.specs.Reports.{board_answer, IsOfLines, RowsOf, SearchedTo, ShowsStudy, LevelsOf, LevelsIn, verdict_of, names_of, ShowsOrder, Promises}
 
-pub answer_laws : Laws board_answer
+pub answer_laws : (t : Overhead NamedTest) → Laws (board_answer t)
 answer_laws = over_laws named_laws
 
 module _ (t : Overhead NamedTest) where
-  stepped_table : (room : Room) (before after : Moment) → Stepped board_answer t room before after → after.study.table ≡ before.study.table
+  stepped_table : (room : Room) (before after : Moment) → Stepped (board_answer t) room before after → after.study.table ≡ before.study.table
   stepped_table room before after (none empty ends) = ends.table
   stepped_table room before after (keeps grown some closed grows has leaves) = leaves.table
   stepped_table room before after (keep_stops some closed lacks ends) = ends.table
@@ -44,27 +44,27 @@ module _ (t : Overhead NamedTest) where
   stepped_table room before after (splits u some open' closed grows has few leaves) = leaves.table
   stepped_table room before after (split_stops u some open' closed grows lacks ends) = ends.table
 
-  pub leads_table : (room : Room) (before : Moment) → HasRoom room before → {n : ℕ} {after : Moment} → Leads board_answer t room before n after → (after.study.table ≡ before.study.table) × KeepsAt board_answer t after
+  pub leads_table : (room : Room) (before : Moment) → HasRoom room before → {n : ℕ} {after : Moment} → Leads (board_answer t) room before n after → (after.study.table ≡ before.study.table) × KeepsAt (board_answer t) after
   leads_table room before has (begins {after} begun) =
       let on = begin_accepted before after room has begun in
-      (on.2.table, begun_keeps board_answer t on.0 before after on.1 on.2)
+      (on.2.table, begun_keeps (board_answer t) on.0 before after on.1 on.2)
   leads_table room before has (steps {n} {m} {after} leads going one) =
       let was = leads_table room before has leads in
-      let on = step_accepted board_answer t m after (ready board_answer t m was.1) one in
-      (stepped_table on.0 m after on.2 ∙ was.0, stepped_keeps board_answer t answer_laws on.0 m after was.1 on.1 on.2)
+      let on = step_accepted (board_answer t) m after (ready (board_answer t) m was.1) one in
+      (stepped_table on.0 m after on.2 ∙ was.0, stepped_keeps (board_answer t) (answer_laws t) on.0 m after was.1 on.1 on.2)
 
   module _ (before after : Study) (search : SearchedTo t before after) where
     same_table : after.table ≡ before.table
     same_table = ap (λ (s : Study). s.table) (sym search.ends) ∙ (leads_table _ search.first search.room search.searched.leads).0 ∙ ap (λ (s : Study). s.table) search.begins
 
     pub last_rows : rows_of search.last ≡ view before.table
-    last_rows = ap (λ (s : Study). view s.table) search.ends ∙ ap (λ (u : Table Row). view u) same_table
+    last_rows = ap (λ (s : Study). view s.table) search.ends ∙ ap (λ (u : Table). view u) same_table
 
-    shown_order : (f : Finding) → after.state ≡ state.Found f → Shown board_answer t (view before.table) f
-    shown_order f is = subst (λ rows. Shown board_answer t rows f) last_rows (search.means.found f (ap (λ (s : Study). s.state) search.ends ∙ is))
+    shown_order : (f : Finding) → after.state ≡ state.Found f → Shown (board_answer t) (view before.table) f
+    shown_order f is = subst (λ rows. Shown (board_answer t) rows f) last_rows (search.means.found f (ap (λ (s : Study). s.state) search.ends ∙ is))
 
-    every_late : after.state ≡ state.None → (order : List ℕ) → Order (length (view before.table)) order → HasLate board_answer t (view before.table) order
-    every_late is = subst (λ rows. (order : List ℕ) → Order (length rows) order → HasLate board_answer t rows order) last_rows (search.means.none (ap (λ (s : Study). s.state) search.ends ∙ is))
+    every_late : after.state ≡ state.None → (order : List ℕ) → Order (view before.table) order → HasLate (board_answer t) (view before.table) order
+    every_late is = subst (λ rows. (order : List ℕ) → Order rows order → HasLate (board_answer t) rows order) last_rows (search.means.none (ap (λ (s : Study). s.state) search.ends ∙ is))
 
     has_verdict : verdicts after.state ≡ 1
     has_verdict = ap (λ (s : Study). verdicts s.state) (sym search.ends) ∙ search.searched.ends
@@ -76,8 +76,12 @@ found_is (state.Found f) P h = h f refl
 found_is state.None P h = tt
 found_is state.Stopped P h = tt
 
-pub levels_order : (t : Overhead NamedTest) (tasks : Sheet) (before after : Study) → SearchedTo t before after → RowsOf tasks (count_of tasks) (view before.table) → IfSome (finding_in after.state) (λ f. Order (count_of tasks) (take (count_of tasks) f.order))
-levels_order t tasks before after search of = found_is after.state _ (λ f is. subst (λ n. Order n (take n f.order)) of.size (shown_order t before after search f is).0)
+pub levels_order : (t : Overhead NamedTest) (tasks : Sheet) (before after : Study) → SearchedTo t before after → RowsOf tasks (count_of tasks) (view before.table) → IfSome (finding_in after.state) (λ f. IsOfLines tasks f.order)
+levels_order t tasks before after search of = found_is after.state _ (λ f is k low high.
+    let n = length (view before.table) in
+    let at = (shown_order t before after search f is).0.each (k - 1) (omega (arith, of.size)) in
+    let here = sym (nth_taken n f.order k low (omega (arith, of.size))) ∙ nth_at (take n f.order) k 0 low in
+    (omega (arith, at.0, here), omega (arith, at.1, here, of.size)))
 
 abbrev code : Verdict → ℕ
 code verdict.Found = 0
@@ -107,7 +111,7 @@ module _ (t : Overhead NamedTest) (tasks : Sheet) (before after : Study) (search
         many = same;
         named = λ k low high. levels.named k low high ∙ ap (task_of tasks) (sym (placed k low high));
         estimated = λ k low high.
-            let at = shown.0.rows (k - 1) (omega (arith, same)) in
+            let at = shown.0.each (k - 1) (omega (arith, same)) in
             let here = nth_at (take n f.order) k 0 low in
             levels.estimated k low high ∙ ap (λ i. nth f.estimates i 0) (sym (placed k low high)) ∙ sym (nth_taken n f.estimates (nth (take n f.order) k 0) (omega (arith, at.0, here)) (omega (arith, at.1, here)));
       }
@@ -119,7 +123,7 @@ module _ (t : Overhead NamedTest) (tasks : Sheet) (before after : Study) (search
   found_in state.None is levels found = absurd (omega (arith, found))
   found_in state.Stopped is levels found = absurd (omega (arith, found))
 
-  none_in : (s : State) → after.state ≡ s → code (verdict_of s) ≡ 1 → (order : List ℕ) → Order (length rows) order → HasLate board_answer t rows order
+  none_in : (s : State) → after.state ≡ s → code (verdict_of s) ≡ 1 → (order : List ℕ) → Order rows order → HasLate (board_answer t) rows order
   none_in state.Draft is e = absurd (omega (arith, e))
   none_in (state.Running room) is e = absurd (omega (arith, e))
   none_in (state.Found f) is e = absurd (omega (arith, e))

@@ -2,8 +2,9 @@
 use Rattle.std.proofs.Common.{◌≡◌, ℕ, ◌≤◌, List, Result, Ok, Err, ap, sym, subst, ◌∙◌}
 use Rattle.std.specs.Result.{MatchResult}
 use Rattle.table.specs.declared.fault.Fault.{Fault}
-use Rattle.bounds.specs.Made.{Allowed}
-use Rattle.bounds.specs.Named.{IsTestName, Known, IsNamed, MadeNamed}
+use Rattle.bounds.specs.Made.{Allowed, MadeProcessors}
+use Rattle.bounds.specs.declared.processors.Processors.{Processors as OneNumber}
+use Rattle.bounds.specs.Named.{IsTestName, IsNamed, MadeNamed}
 use Rattle.bounds.specs.declared.overhead.Overhead.{Overhead}
 use Rattle.bounds.specs.declared.named.NamedTest.{NamedTest}
 use Rattle.bounds.specs.Overheads.{MadeOverhead}
@@ -24,17 +25,24 @@ all_suit b P m t Period h = tt
 all_suit b P m t Deadline h = tt
 all_suit b P m t Estimate h = tt
 
-pub known_here : (b : Sheet) (name : List ℕ) (m : ℕ) → name ≡ field_of b 1 Test → m ≡ number_under b 1 Processors → HasTest b → Known name m
-known_here b name m n e has = (subst IsTestName (sym n) (has Test), subst Allowed (sym e) (has Processors))
+pub known_here : (b : Sheet) (name : List ℕ) → name ≡ field_of b 1 Test → HasTest b → IsTestName name
+known_here b name n has = subst IsTestName (sym n) (has Test)
+
+pub allowed_here : (b : Sheet) (m : ℕ) → m ≡ number_under b 1 Processors → HasTest b → Allowed m
+allowed_here b m e has = subst Allowed (sym e) (has Processors)
+
+-- processors that were made are so many
+pub processors_made : (m : ℕ) (p : OneNumber) → MadeProcessors m (Ok p) → Allowed m → p.count ≡ m
+processors_made m p made allowed = let is = made.1 allowed in let same : p ≡ is.0 = (let e = is.1 in cc) in ap (λ (x : OneNumber). x.count) same ∙ is.2
 
 abbrev given : NamedTest → Result NamedTest Fault → NamedTest
 given d (Ok t) = t
 given d (Err fault) = d
 
-pub named_made : (name : List ℕ) (m : ℕ) (t : NamedTest) → MadeNamed name m (Ok t) → Known name m → IsNamed name m t
-named_made name m t made known =
+pub named_made : (name : List ℕ) (p : OneNumber) (t : NamedTest) → MadeNamed name p (Ok t) → IsTestName name → IsNamed name p.count t
+named_made name p t made known =
     let is = made.1 known in
-    subst (IsNamed name m) (ap (given t) (sym is.1)) is.2
+    subst (IsNamed name p.count) (ap (given t) (sym is.1)) is.2
 
 pub test_made : (b : Sheet) (name : List ℕ) (m v : ℕ) (t : NamedTest) (r : Result (Overhead NamedTest) Fault) → name ≡ field_of b 1 Test → m ≡ number_under b 1 Processors → v ≡ number_under b 1 V → v ≤ 1000000
     → HasTest b → IsNamed name m t → MadeOverhead v t r → MatchResult r (λ test. HasTest b × IsTest b test) (TestMisses b)

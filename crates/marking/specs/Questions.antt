@@ -2,6 +2,7 @@
 use Rattle.std.specs.Prelude.{◌≡◌, ℕ, ◌+◌, ◌<◌, ◌≤◌, List}
 use Rattle.table.specs.declared.fault.Fault.{Fault}
 use Rattle.table.specs.declared.fault.Fault.TheVariants.{BadRow, BadTest, BadOrder}
+use Rattle.table.specs.declared.numbers.Numbers.{Numbers}
 use Rattle.table.specs.Rows.{IsRow}
 use Rattle.bounds.specs.Made.{Allowed}
 use Rattle.bounds.specs.declared.overhead.Overhead.{Overhead}
@@ -45,9 +46,17 @@ TestMisses board fault =
 abbrev pub IsTest : Sheet → Overhead NamedTest → Type 0
 IsTest board t = (t.added ≡ number_under board 1 V) × IsNamed (field_of board 1 Test) (number_under board 1 Processors) t.below
 
+-- the numbers in the k-th value line of the tasks sheet
+abbrev pub numbers_at : Sheet → ℕ → Numbers
+numbers_at tasks k = record {
+  wcet = number_under tasks k Wcet;
+  period = number_under tasks k Period;
+  deadline = number_under tasks k Deadline;
+}
+
 -- question 11: the numbers of the k-th value line of the tasks sheet make a row
 abbrev pub HasRow : Sheet → ℕ → Type 0
-HasRow tasks k = IsRow (number_under tasks k Wcet) (number_under tasks k Period) (number_under tasks k Deadline)
+HasRow tasks k = IsRow (numbers_at tasks k)
 
 -- the fault is that of the first line that makes no row
 abbrev pub RowMisses : Sheet → Fault → Type 0

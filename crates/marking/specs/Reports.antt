@@ -7,6 +7,7 @@ use Rattle.table.specs.Rows.{row, view, Of}
 use Rattle.bounds.specs.declared.overhead.Overhead.{Overhead}
 use Rattle.bounds.specs.declared.named.NamedTest.{NamedTest}
 use Rattle.bounds.specs.declared.miss.Miss.{Miss}
+use Rattle.bounds.specs.Questions.{Meaning}
 use Rattle.bounds.specs.Named.{named_answer}
 use Rattle.bounds.specs.Orders.{Order, Estimates, Holds, HasLate, FirstMiss}
 use Rattle.bounds.specs.Overheads.{over_answer}
@@ -32,20 +33,20 @@ use Rattle.marking.specs.declared.report.Verdict.TheVariants as verdict
 use Rattle.marking.specs.declared.report.Outcome.{Outcome}
 use Rattle.marking.specs.declared.report.Outcome.TheVariants as outcome
 use Rattle.marking.specs.declared.case.Case.{Case}
-use Rattle.marking.specs.Questions.{number_under, HasTest, IsTest, IsPaired, HasRow, HasEstimate, sheet_of, TextsMiss, SheetsMiss}
+use Rattle.marking.specs.Questions.{number_under, numbers_at, HasTest, IsTest, IsPaired, HasRow, HasEstimate, sheet_of, TextsMiss, SheetsMiss}
 
 -- what a board's test answers: what the test of its name answers, and V added
-abbrev pub board_answer : Overhead NamedTest → List Row → ℕ → List Bool → List ℕ → Option ℕ
+abbrev pub board_answer : Overhead NamedTest → Meaning
 board_answer = over_answer named_answer
 
 -- the rows are those of the first n value lines of the tasks sheet: row k is of the numbers in the k-th one
 pub record RowsOf (tasks : Sheet) (n : ℕ) (rows : List Row) : Type 0 where
   pub size : length rows ≡ n
-  pub each : EachLine (λ k. Of (row rows k) (number_under tasks k Wcet) (number_under tasks k Period) (number_under tasks k Deadline)) n
+  pub each : EachLine (λ k. Of (row rows k) (numbers_at tasks k)) n
 
 -- a study that calls have led to, under any test and with any lists
 abbrev pub HasHistory : Study → Type 0
-HasHistory s = (t : Overhead NamedTest) (ledger pending : List ℕ) → (c : Since) × History board_answer t (moment s ledger pending) c
+HasHistory s = (t : Overhead NamedTest) (ledger pending : List ℕ) → (c : Since) × History (board_answer t) (moment s ledger pending) c
 
 -- the estimate in the k-th value line of the answer is that of the row in the order's k-th place
 abbrev pub EstimatesOf : Sheet → List ℕ → List ℕ → ℕ → Type 0
@@ -62,8 +63,8 @@ pub record SearchedTo (t : Overhead NamedTest) (before after : Study) : Type 0 w
   pub begins : first.study ≡ before
   pub ends : last.study ≡ after
   pub room : HasRoom slots first
-  pub searched : Searched board_answer t slots first last
-  pub means : Means board_answer t last
+  pub searched : Searched (board_answer t) slots first last
+  pub means : Means (board_answer t) last
   pub few : after.steps ≤ 97
 
 -- the names of a report's levels, as bytes
@@ -74,6 +75,11 @@ names_of r = map (λ name. name.now) r.tasks
 pub record LevelsOf (tasks : Sheet) (f : Finding) (n : ℕ) (names : List (List ℕ)) (estimates : List ℕ) : Type 0 where
   pub named : EachLine (λ k. nth names k [] ≡ task_of tasks (nth f.order k 0)) n
   pub estimated : EachLine (λ k. nth estimates k 0 ≡ nth f.estimates (nth f.order k 0) 0) n
+
+-- the first places of an order, as many as the tasks sheet has value lines, name value lines of it
+abbrev pub IsOfLines : Sheet → List ℕ → Type 0
+IsOfLines tasks order =
+    EachLine (λ k. (1 ≤ nth order k 0) × (nth order k 0 ≤ count_of tasks)) (count_of tasks)
 
 -- past the last level stand no byte and 0
 abbrev pub BlankPast : ℕ → List (List ℕ) → List ℕ → Type 0
@@ -117,7 +123,7 @@ pub record ChecksAnswer (t : Overhead NamedTest) (rows : List Row) (tasks answer
   pub estimates : List ℕ
   pub is : AnswerOf tasks answer order estimates
   pub miss : Option Miss
-  pub first : FirstMiss board_answer t rows order estimates miss
+  pub first : FirstMiss (board_answer t) rows order estimates miss
   pub outcome : OutcomeOf tasks miss o
 
 -- the values of three sheets: the board's test, a study of the rows, the answer's order, and its estimates by row, each in 32 places
@@ -137,10 +143,10 @@ pub record CaseOf (board tasks answer : Sheet) (case : Case) : Type 0 where
 pub record ShowsOrder (t : Overhead NamedTest) (tasks : Sheet) (rows : List Row) (r : Report) : Type 0 where
   pub order : List ℕ
   pub estimates : List ℕ
-  pub each : Order (length rows) order
-  pub holds : Holds board_answer t rows order
+  pub each : Order rows order
+  pub holds : Holds (board_answer t) rows order
   pub lie : Estimates rows estimates
-  pub passes : Passes board_answer t rows (as_range estimates) order
+  pub passes : Passes (board_answer t) rows (as_range estimates) order
   pub many : r.levels ≡ length rows
   pub named : EachLine (λ k. nth (names_of r) k [] ≡ task_of tasks (nth order k 0)) r.levels
   pub estimated : EachLine (λ k. nth r.estimates k 0 ≡ nth estimates (nth order k 0) 0) r.levels
@@ -150,7 +156,7 @@ pub record Promises (t : Overhead NamedTest) (tasks : Sheet) (rows : List Row) (
   -- found: the levels show an order that holds, and estimates that it passes
   pub found : r.verdict ≡ verdict.Found → ShowsOrder t tasks rows r
   -- none: every order of the rows has a late task
-  pub none : r.verdict ≡ verdict.None → (order : List ℕ) → Order (length rows) order → HasLate board_answer t rows order
+  pub none : r.verdict ≡ verdict.None → (order : List ℕ) → Order rows order → HasLate (board_answer t) rows order
   -- the steps are as many as the ledger ranges and one more, and the most that 96 slots allow
   pub counted : r.steps ≡ r.ranges + 1
   pub few : r.steps ≤ 97

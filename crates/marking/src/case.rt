@@ -16,11 +16,10 @@ use crate::report::{Outcome, Report};
 use crate::rows::study_of;
 use crate::shown::{outcome_of, report_of, search};
 use bounds::check::check;
-use bounds::named::NamedTest;
-use bounds::overhead::Overhead;
+use bounds::{NamedTest, Overhead};
 use sheets::{Sheet, pair};
-use study::study::Study;
-use table::fault::Fault;
+use study::Study;
+use table::Fault;
 
 /// A test, a study of the rows, and an answer: an order and estimates by row.
 #[derive(Drop)]

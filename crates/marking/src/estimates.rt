@@ -8,7 +8,7 @@ ghost use Rattle.marking.specs.Reports.{EstimatesOf};
 
 use crate::fields::{field, number};
 use sheets::{Column, Sheet};
-use table::fault::Fault;
+use table::Fault;
 
 // Whether an estimate lies from a wcet to a deadline.
 fn lies(estimate: u32, wcet: u32, deadline: u32) -> bool

@@ -7,7 +7,7 @@ ghost use Rattle.marking.specs.Reports.{Marks, SameReport};
 use crate::case::Case;
 use crate::report::Report;
 use crate::trio::Trio;
-use table::fault::Fault;
+use table::Fault;
 
 /// The report on a board, its tasks and an answer: the search of the tasks' rows under the board's test, and the check of
 /// the answer; or the first fault.

@@ -11,7 +11,7 @@ use std::alloc::{AllocError, Global};
 use std::io;
 use std::io::Write;
 use std::process::ExitCode;
-use table::fault::Fault;
+use table::Fault;
 
 // The bytes of a report or of a fault.
 fn render(alloc: Global, marked: &Result<Report<'_>, Fault>) -> Result<Vec<u8>, AllocError>

@@ -7,7 +7,7 @@ use crate::report::{Outcome, Report, Verdict};
 use itoa::Buffer;
 use sheets::Column;
 use std::alloc::{AllocError, Global};
-use table::fault::Fault;
+use table::Fault;
 
 /// The word of a verdict.
 fn word(verdict: Verdict) -> &'static [u8]

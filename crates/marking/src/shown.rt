@@ -1,23 +1,20 @@
 // What a report shows of a search and of an answer.
 ghost use Rattle.std.specs.Prelude.{◌≡◌, ◌≤◌, Ok, map, length, take, IfSome};
 ghost use Rattle.table.specs.Rows.{view};
-ghost use Rattle.bounds.specs.Orders.{Order};
 ghost use Rattle.study.specs.Counts.{finding_in};
 ghost use Rattle.sheets.specs.declared.form.Form.TheVariants.{Tasks};
 ghost use Rattle.sheets.specs.Pairs.{count_of};
 ghost use Rattle.sheets.specs.Sheets.{IsFull};
-ghost use Rattle.marking.specs.Reports.{HasHistory, SearchedTo, LevelsOf, BlankPast, LevelsIn, verdict_of, ShowsStudy, OutcomeOf};
+ghost use Rattle.marking.specs.Reports.{IsOfLines, HasHistory, SearchedTo, LevelsOf, BlankPast, LevelsIn, verdict_of, ShowsStudy, OutcomeOf};
 
 use crate::fields::field;
 use crate::report::{Outcome, Report, Verdict};
-use bounds::miss::Miss;
-use bounds::named::NamedTest;
-use bounds::overhead::Overhead;
+use bounds::{Miss, NamedTest, Overhead};
 use sheets::{Column, Sheet};
-use study::finding::Finding;
-use study::state::State;
-use study::study::Study;
-use table::fault::Fault;
+use study::Finding;
+use study::State;
+use study::Study;
+use table::Fault;
 
 /// How many numbers each list of a search has: 96 slots of 64.
 const LIST: usize = 64 * 96;
@@ -43,7 +40,7 @@ pub(crate) struct Levels<'a> {
 /// The levels of an order that was found.
 pub(crate) fn levels_of<'a>(tasks: &Sheet<'a>, finding: &Finding) -> Levels<'a>
     requires tasks { (tasks.now.form ≡ Tasks) × IsFull tasks.now }
-    requires order { Order (count_of tasks.now) (take (count_of tasks.now) finding.now.order) }
+    requires order { IsOfLines tasks.now finding.now.order }
     ensures levels { LevelsOf tasks.now finding.now (count_of tasks.now) (map (λ n. n.now) result.names) result.estimates }
     ensures count { result.count ≡ count_of tasks.now }
     ensures rest { BlankPast (count_of tasks.now) (map (λ n. n.now) result.names) result.estimates }
@@ -65,7 +62,7 @@ pub(crate) fn levels_of<'a>(tasks: &Sheet<'a>, finding: &Finding) -> Levels<'a>
 // The levels of a state: none where no order was found.
 fn levels_in<'a>(tasks: &Sheet<'a>, state: State) -> Levels<'a>
     requires tasks { (tasks.now.form ≡ Tasks) × IsFull tasks.now }
-    requires order { IfSome (finding_in state) (λ f. Order (count_of tasks.now) (take (count_of tasks.now) f.order)) }
+    requires order { IfSome (finding_in state) (λ f. IsOfLines tasks.now f.order) }
     ensures { LevelsIn tasks.now state result.count (map (λ n. n.now) result.names) result.estimates }
 {
     match state.finding() {
@@ -92,7 +89,7 @@ fn verdict_of(state: State) -> Verdict
 /// The report of a study that was searched, and of an answer that was checked.
 pub(crate) fn report_of<'a>(tasks: &Sheet<'a>, study: &Study, outcome: Outcome<'a>) -> Report<'a>
     requires tasks { (tasks.now.form ≡ Tasks) × IsFull tasks.now }
-    requires order { IfSome (finding_in study.now.state) (λ f. Order (count_of tasks.now) (take (count_of tasks.now) f.order)) }
+    requires order { IfSome (finding_in study.now.state) (λ f. IsOfLines tasks.now f.order) }
     ensures study { ShowsStudy tasks.now study.now result }
     ensures outcome { result.outcome ≡ outcome.entry }
 {

@@ -5,7 +5,7 @@ ghost use Rattle.marking.specs.Questions.{TextsMiss};
 ghost use Rattle.marking.specs.Reports.{Read};
 
 use sheets::{Form, Sheet};
-use table::fault::Fault;
+use table::Fault;
 
 /// A board, its tasks and an answer.
 #[derive(Drop)]

@@ -1,13 +1,13 @@
 use Rattle.std.proofs.Common.{◌+◌, ◌<◌, ◌≡◌, subst, sym, ap, ◌∙◌, arith}
 use Rattle.table.specs.declared.fault.Fault.TheVariants.{BadRow}
 use Rattle.sheets.specs.declared.form.Form.TheVariants.{Tasks}
-use Rattle.sheets.specs.declared.form.Column.TheVariants.{Task, Wcet, Period, Deadline}
+use Rattle.sheets.specs.declared.form.Column.TheVariants.{Task}
 use Rattle.sheets.specs.Pairs.{count_of, EachLine}
 use Rattle.sheets.proofs.Paired.{first_line}
 use Rattle.table.specs.Rows.{view}
 use Rattle.marking.specs.Reports.{RowsOf, HasHistory}
 use Rattle.marking.specs.Questions.{HasRow}
-use Rattle.marking.proofs.Full.{task_there, wcet_there, period_there, deadline_there, has_field, has_number}
+use Rattle.marking.proofs.Full.{task_there, has_field}
 use Rattle.marking.proofs.Rowed.{whole_place, none_yet, new_history, no_row, row_more, rows_more, history_more}
 use Rattle.marking.proofs.rows.study_of.Goals as goal
 
@@ -18,14 +18,8 @@ loop-i-init c = record {
   history = new_history c.new-study.result c.new-study.ensures;
 }
 
-pub number-wcet-requires : goal.number-wcet-requires
-number-wcet-requires c = has_number c.args.tasks.now Tasks c.requires.0 c.requires.1 Wcet wcet_there (c.loop-i.i + 1) (omega arith) (omega (arith, c.len-i-end.ensures.count)) (λ h. h)
-
-pub number-period-requires : goal.number-period-requires
-number-period-requires c = has_number c.args.tasks.now Tasks c.requires.0 c.requires.1 Period period_there (c.loop-i.i + 1) (omega arith) (omega (arith, c.len-i-end.ensures.count)) (λ h. h)
-
-pub number-deadline-requires : goal.number-deadline-requires
-number-deadline-requires c = has_number c.args.tasks.now Tasks c.requires.0 c.requires.1 Deadline deadline_there (c.loop-i.i + 1) (omega arith) (omega (arith, c.len-i-end.ensures.count)) (λ h. h)
+pub numbers_at-requires : goal.numbers_at-requires
+numbers_at-requires c = record { sheet = c.requires; line = (omega arith, omega (arith, c.len-i-end.ensures.count)) }
 
 pub field-requires : goal.field-requires
 field-requires c = has_field c.args.tasks.now Tasks c.requires.0 c.requires.1 Task task_there (c.loop-i.i + 1) (omega arith) (omega (arith, c.len-i-end.ensures.count))
@@ -36,15 +30,15 @@ loop-i-preserved c =
     let on = c.loop-i.invariant in
     let good = sym c.is_err.ensures.value ∙ c.if-is_err.false in
     record {
-      each = row_more c.args.tasks.now c.loop-i.i few c.loop-i.study c.add.new.self _ _ _ c.number-wcet.ensures c.number-period.ensures c.number-deadline.ensures _ c.add.ensures on.rows good on.each;
-      rows = rows_more c.args.tasks.now c.loop-i.i few c.loop-i.study c.add.new.self _ _ _ c.number-wcet.ensures c.number-period.ensures c.number-deadline.ensures _ c.add.ensures on.rows good;
-      history = history_more c.args.tasks.now c.loop-i.i few c.loop-i.study c.add.new.self _ _ _ c.number-wcet.ensures c.number-period.ensures c.number-deadline.ensures _ c.add.ensures on.rows on.history;
+      each = row_more c.args.tasks.now c.loop-i.i few c.loop-i.study c.add.new.self _ c.numbers_at.ensures _ c.add.ensures.does on.rows good on.each;
+      rows = rows_more c.args.tasks.now c.loop-i.i few c.loop-i.study c.add.new.self _ c.numbers_at.ensures _ c.add.ensures.does on.rows good;
+      history = history_more c.args.tasks.now c.loop-i.i few c.loop-i.study c.add.new.self _ c.numbers_at.ensures _ c.add.ensures.does on.rows on.history;
     }
 
 pub returns-then-is_err : goal.returns-then-is_err
 returns-then-is_err c =
     let few : c.loop-i.i < 32 = omega (arith, c.len-i-end.ensures.few) in
-    let bad = no_row c.args.tasks.now c.loop-i.i few c.loop-i.study c.add.new.self _ _ _ c.number-wcet.ensures c.number-period.ensures c.number-deadline.ensures _ c.add.ensures c.loop-i.invariant.rows (sym c.is_err.ensures.value ∙ c.if-is_err.true) in (
+    let bad = no_row c.args.tasks.now c.loop-i.i few c.loop-i.study c.add.new.self _ c.numbers_at.ensures _ c.add.ensures.does c.loop-i.invariant.rows (sym c.is_err.ensures.value ∙ c.if-is_err.true) in (
       c.loop-i.i + 1,
       ap BadRow (whole_place c.whole_line.result c.field.result.place _ _ _ c.whole_line.ensures c.field.ensures.place),
       first_line (HasRow c.args.tasks.now) c.loop-i.i c.loop-i.invariant.each (count_of c.args.tasks.now) (omega (arith, c.len-i-end.ensures.count)) bad,

@@ -20,8 +20,14 @@ loop-i-init c = record {
 
 pub field-requires : goal.field-requires
 field-requires c =
-    let row = task_row (count_of c.args.tasks.now) c.args.finding.now.order c.requires.order c.loop-i.i (omega (arith, c.len-i-end.ensures.count)) in
+    let row = task_row c.args.tasks.now c.args.finding.now.order c.requires.order c.loop-i.i (omega (arith, c.len-i-end.ensures.count)) in
     has_field c.args.tasks.now Tasks c.requires.tasks.0 c.requires.tasks.1 Task task_there (get_or c.args.finding.now.order c.loop-i.i 0) row.0 row.1
+
+pub overflow_sub-estimates : goal.overflow_sub-estimates
+overflow_sub-estimates c = (task_row c.args.tasks.now c.args.finding.now.order c.requires.order c.loop-i.i (omega (arith, c.len-i-end.ensures.count))).0
+
+pub bounds-finding-task : goal.bounds-finding-task
+bounds-finding-task c = let row = task_row c.args.tasks.now c.args.finding.now.order c.requires.order c.loop-i.i (omega (arith, c.len-i-end.ensures.count)) in omega (arith, row.0, row.1, c.len-i-end.ensures.few, c.len-i-end.ensures.count)
 
 pub loop-i-preserved : goal.loop-i-preserved
 loop-i-preserved c =
@@ -29,7 +35,7 @@ loop-i-preserved c =
     let f = c.args.finding.now in
     let i = c.loop-i.i in
     let task = get_or f.order i 0 in
-    let row = task_row (count_of tasks) f.order c.requires.order i (omega (arith, c.len-i-end.ensures.count)) in
+    let row = task_row tasks f.order c.requires.order i (omega (arith, c.len-i-end.ensures.count)) in
     let names = map (λ n. n.now) c.loop-i.names in
     let moved : map (λ n. n.now) (set c.loop-i.names i c.field.result.bytes) ≡ set names i c.field.result.bytes.now = map-set (λ n. n.now) c.loop-i.names i c.field.result.bytes in
     let many : i < length names = omega (arith, length-map c.loop-i.names (λ n. n.now), c.loop-i.invariant.many, c.len-i-end.ensures.few) in
