@@ -58,7 +58,7 @@ pub struct Field<'a> {
 }
 
 impl Field<'_> {
-    /// The number that the field writes.
+    /// The number that the field writes, if it writes one.
     pub fn number(&self) -> Option<u32>
         ensures { ReadsNumber self.now.bytes.now result }
     {

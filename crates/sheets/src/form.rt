@@ -77,7 +77,7 @@ impl Column {
         }
     }
 
-    /// Its name.
+    /// Its name, as line 1 of a sheet has it.
     pub fn name(self) -> &'static [u8]
         ensures { result.now ≡ name_of self }
     {

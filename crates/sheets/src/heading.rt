@@ -18,13 +18,14 @@ fn has(given: &[Column], column: Column) -> bool
 // Whether the list has as many columns as the form, and each of these.
 fn are_columns(form: Form, given: &[Column]) -> bool
     ensures { IsTrue result
-        ↔ ((length given.now ≡ length (columns_of form)) × All (Contains given.now) (columns_of form)) }
+        ↔ ((length given.now ≡ length (columns_of form))
+        × All (Contains given.now) (columns_of form)) }
 {
     let columns = form.columns();
     given.len() == columns.len() && columns.iter().all(|column| has(given, *column))
 }
 
-/// The columns from left to right, if they are the form's, each once; what stands past them is a filler.
+/// The columns from left to right, if they are the form's, each once; past them stands a filler.
 pub(crate) fn columns_named(form: Form, names: &[u8]) -> Option<[Column; MOST_COLUMNS]>
     requires { length names.now ≤ LONGEST }
     ensures { MatchOption result

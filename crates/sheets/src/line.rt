@@ -27,7 +27,7 @@ fn count_fields(line: &[u8]) -> usize
     line.iter().filter(|b| **b == b' ').count() + 1
 }
 
-// The number of the first field that has not the form of its column's kind; there are as many fields as columns.
+// The number of the first field that has not the form of its column's kind, of as many as columns.
 fn first_misfit(columns: &[Column], line: &[u8]) -> Option<u32>
     requires small { length line.now ≤ LONGEST }
     requires full { length (fields_in line.now) ≡ length columns.now }
@@ -45,8 +45,8 @@ fn first_misfit(columns: &[Column], line: &[u8]) -> Option<u32>
     None
 }
 
-/// Asks of a value line whether it has as many fields as columns, and each the form of its kind. The faults are on
-/// the sheet of this number.
+/// Asks of a value line whether it has as many fields as columns, and each the form of its kind.
+/// The faults are on the sheet of this number.
 pub(crate) fn ask_line(sheet: u32, columns: &[Column], line: Part<'_>) -> Result<(), Fault>
     requires { length line.bytes.now ≤ LONGEST }
     ensures { MatchResult result

@@ -57,7 +57,8 @@ impl<'a> Reader<'a> {
         ensures short { IfSome result (λ part. length part.bytes.now ≤ LONGEST) }
         ensures number { MatchOption result
             (self.new ≡ self.old)
-            (λ part. (part.number ≡ self.old.number + 1) × (self.new.number ≡ self.old.number + 1)) }
+            (λ part. (part.number ≡ self.old.number + 1)
+            × (self.new.number ≡ self.old.number + 1)) }
     {
         let rest = self.text.get(self.at..)?;
         let len = first_separator(self.separator, rest).unwrap_or(rest.len());

@@ -13,7 +13,7 @@ use crate::line::{ask_line, field_at};
 use crate::reader::{LONGEST, Reader};
 use table::fault::{Fault, Place};
 
-/// A sheet that was read: it holds its value lines, as parts of the text, and the columns that line 1 names.
+/// A sheet that was read: it holds its value lines, as parts of the text, and its columns.
 #[derive(Drop)]
 pub struct Sheet<'a> {
     form: Form,
@@ -56,20 +56,25 @@ impl<'a> Sheet<'a> {
     ghost use Rattle.sheets.specs.Reading.{IsFirst, IsSheet};
     ghost use Rattle.sheets.specs.Lines.{ReadsLines};
     ghost use Rattle.sheets.specs.Texts.{IsText};
-    ghost use Rattle.sheets.specs.Sheets.{columns_in, lines_of, values_of, left_of, HasField, field_of, field_place, line_place, IsFull, ReadsText};
+    ghost use Rattle.sheets.specs.Sheets.{columns_in, lines_of, values_of, left_of, HasField, field_of};
+    ghost use Rattle.sheets.specs.Sheets.{field_place, line_place, IsFull, ReadsText};
     ghost use Rattle.sheets.specs.Pairs.{task_of, name_place, EachLine};
 
+    /// Reads a text as a sheet of the form, with any number: the places of its fields, and in faults,
+    /// are on the sheet of this number. Refused where the text is no such sheet (1 to 5).
     #[tactic(auto, using(crate::proofs::Cuts::one_text, crate::proofs::Outcomes::one_first))]
-    /// Reads a text as a sheet of the form, with this number. Refused where the text is no such sheet (1 to 5).
     pub fn read(form: Form, number: u32, text: &'a [u8]) -> Result<Sheet<'a>, Fault>
         ensures read { ReadsText form number text.now result }
         ensures full { IfOk result IsFull }
         // What is a sheet is read, so a fault is given only for what is none.
-        ensures whole { (lines : List (List (List ℕ))) (columns : _) → IsSheet form text.now lines columns → IsOk result }
+        ensures whole { (lines : List (List (List ℕ))) (columns : _)
+            → IsSheet form text.now lines columns → IsOk result }
         // A text is of no other lines.
-        ensures one { (lines others : List (List (List ℕ))) → IsText text.now lines → IsText text.now others → lines ≡ others }
+        ensures one { (lines others : List (List (List ℕ)))
+            → IsText text.now lines → IsText text.now others → lines ≡ others }
         // It has no other first fault.
-        ensures first { (f g : Fault) → IsFirst form number text.now f → IsFirst form number text.now g → f ≡ g }
+        ensures first { (one other : Fault)
+            → IsFirst form number text.now one → IsFirst form number text.now other → one ≡ other }
     {
         let Some(body) = body_of(text) else {
             return Err(Fault::BadText(place(number, 0, 0)));
@@ -143,7 +148,8 @@ impl<'a> Sheet<'a> {
     fn line(&self, k: usize) -> Option<&'a [u8]>
         ensures line { MatchOption result
             (¬ ((1 ≤ k) × (k ≤ length (lines_of self.now))))
-            (λ line. (1 ≤ k) × (k ≤ length (lines_of self.now)) × (line.now ≡ nth (lines_of self.now) k [])) }
+            (λ line. (1 ≤ k) × (k ≤ length (lines_of self.now))
+            × (line.now ≡ nth (lines_of self.now) k [])) }
         ensures small { IfSome result (λ line. (k ≤ MOST_LINES) × (length line.now ≤ LONGEST)) }
     {
         let Sheet { lines, len, .. } = self;
