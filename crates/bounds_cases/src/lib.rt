@@ -5,19 +5,11 @@
 mod tests {
     use bounds::analyse::analyse;
     use bounds::check::check as check_answer;
-    use bounds::da::Da;
-    use bounds::lc::Lc;
-    use bounds::miss::Miss;
-    use bounds::named::NamedTest;
-    use bounds::overhead::Overhead;
-    use bounds::question::Question;
-    use bounds::rta::Rta;
-    use bounds::test::Test;
+    use bounds::{Da, Lc, Miss, NamedTest, Overhead, Processors, Question, Rta, Test};
     use std::array;
     use std::process::Abort;
     use std::test::Fail;
-    use table::fault::{Fault, Layer, Place};
-    use table::rows::Table;
+    use table::{Fault, Layer, Place, Table};
     use worked::worked_table;
 
     // The tasks in the list as a set.
@@ -48,7 +40,7 @@ mod tests {
 
     // What da on 2 processors answers of a task of the worked table.
     fn da_on(task: usize, above: &[usize], estimates: &[u32]) -> Result<Option<u32>, Fail> {
-        answer_of(&Da::new(2)?, task, above, estimates)
+        answer_of(&Da::new(Processors::new(2)?), task, above, estimates)
     }
 
     // What a test answers of c in the worked table with a and b above.
@@ -98,12 +90,12 @@ mod tests {
 
     #[test]
     fn answers_by_responses(rt: HostRuntime) -> Result<(), Fail> {
-        let rta = Rta::new(2)?;
+        let rta = Rta::new(Processors::new(2)?);
         assert_eq!(rt; on_c(&rta, 2, 2)?, Some(5));
         assert_eq!(rt; on_c(&rta, 2, 3)?, Some(5));
         assert_eq!(rt; on_c(&rta, 3, 3)?, None);
         assert_eq!(rt; on_c(&rta, 1, 2)?, None);
-        let lc = Lc::new(2)?;
+        let lc = Lc::new(Processors::new(2)?);
         assert_eq!(rt; on_c(&lc, 5, 5)?, Some(5));
         assert_eq!(rt; on_c(&lc, 5, 6)?, None);
         Ok(())
@@ -111,17 +103,44 @@ mod tests {
 
     #[test]
     fn adds_overheads(rt: HostRuntime) -> Result<(), Fail> {
-        assert_eq!(rt; on_c(&Overhead::new(0, Rta::new(2)?)?, 2, 2)?, Some(5));
-        assert_eq!(rt; on_c(&Overhead::new(1, Rta::new(2)?)?, 2, 2)?, Some(6));
-        assert_eq!(rt; on_c(&Overhead::new(2, Rta::new(2)?)?, 2, 2)?, None);
-        assert_eq!(rt; on_c(&Overhead::new(1_000_000, Rta::new(2)?)?, 2, 2)?, None);
-        assert_eq!(rt; on_c(&Overhead::new(1, Rta::new(2)?)?, 3, 3)?, None);
         assert_eq!(rt;
-            on_c(&Overhead::new(1, Overhead::new(1, Rta::new(2)?)?)?, 2, 2)?,
+            on_c(&Overhead::new(0, Rta::new(Processors::new(2)?))?, 2, 2)?,
+            Some(5)
+        );
+        assert_eq!(rt;
+            on_c(&Overhead::new(1, Rta::new(Processors::new(2)?))?, 2, 2)?,
+            Some(6)
+        );
+        assert_eq!(rt;
+            on_c(&Overhead::new(2, Rta::new(Processors::new(2)?))?, 2, 2)?,
             None
         );
         assert_eq!(rt;
-            on_c(&Overhead::new(1, Overhead::new(0, Rta::new(2)?)?)?, 2, 2)?,
+            on_c(
+                &Overhead::new(1_000_000, Rta::new(Processors::new(2)?))?,
+                2,
+                2
+            )?,
+            None
+        );
+        assert_eq!(rt;
+            on_c(&Overhead::new(1, Rta::new(Processors::new(2)?))?, 3, 3)?,
+            None
+        );
+        assert_eq!(rt;
+            on_c(
+                &Overhead::new(1, Overhead::new(1, Rta::new(Processors::new(2)?))?)?,
+                2,
+                2
+            )?,
+            None
+        );
+        assert_eq!(rt;
+            on_c(
+                &Overhead::new(1, Overhead::new(0, Rta::new(Processors::new(2)?))?)?,
+                2,
+                2
+            )?,
             Some(6)
         );
         Ok(())
@@ -129,27 +148,28 @@ mod tests {
 
     #[test]
     fn refuses_other_tests(rt: HostRuntime) -> Result<(), Fail> {
+        let two = Processors::new(2)?;
         for name in ["", "d", "dab", "DA", "rta ", "edf", "l"] {
-            refused(&rt, NamedTest::new(name.as_bytes(), 2), 12, Layer::Board)?;
+            refused(&rt, NamedTest::new(name.as_bytes(), two), 12, Layer::Board)?;
+            assert!(rt; !NamedTest::has_name(name.as_bytes()));
         }
         for name in ["da", "rta", "lc"] {
-            assert!(rt; NamedTest::new(name.as_bytes(), 1).is_ok());
-            assert!(rt; NamedTest::new(name.as_bytes(), 16).is_ok());
-            refused(&rt, NamedTest::new(name.as_bytes(), 0), 12, Layer::Board)?;
+            assert!(rt; NamedTest::new(name.as_bytes(), two).is_ok());
+            assert!(rt; NamedTest::has_name(name.as_bytes()));
         }
         Ok(())
     }
 
     #[test]
     fn refuses_a_long_overhead(rt: HostRuntime) -> Result<(), Fail> {
-        let overhead = Overhead::new(1_000_001, Rta::new(2)?);
+        let overhead = Overhead::new(1_000_001, Rta::new(Processors::new(2)?));
         refused(&rt, overhead, 12, Layer::Board)
     }
 
     #[test]
     fn checks_answers(rt: HostRuntime) -> Result<(), Fail> {
         let table = worked_table()?;
-        let rta = Rta::new(2)?;
+        let rta = Rta::new(Processors::new(2)?);
         assert_eq!(rt; check_answer(&rta, &table, &[1, 2, 3], &[2, 3, 5])?, None);
         assert_eq!(rt;
             check_answer(&rta, &table, &[1, 2, 3], &[2, 3, 4])?,
@@ -166,7 +186,12 @@ mod tests {
             })
         );
         assert_eq!(rt;
-            check_answer(&Da::new(2)?, &table, &[1, 2, 3], &[2, 3, 5])?,
+            check_answer(
+                &Da::new(Processors::new(2)?),
+                &table,
+                &[1, 2, 3],
+                &[2, 3, 5]
+            )?,
             Some(Miss {
                 task: 2,
                 bound: Some(4),
@@ -178,7 +203,7 @@ mod tests {
     #[test]
     fn refuses_what_is_no_answer(rt: HostRuntime) -> Result<(), Fail> {
         let table = worked_table()?;
-        let rta = Rta::new(2)?;
+        let rta = Rta::new(Processors::new(2)?);
         let empty = check_answer(&rta, &Table::new(), &[1], &[1]);
         refused(&rt, empty, 13, Layer::Study)?;
         let answers: [(&[usize], &[u32]); 6] = [
@@ -198,10 +223,10 @@ mod tests {
 
     #[test]
     fn takes_1_to_16_processors(rt: HostRuntime) -> Result<(), Fail> {
-        assert!(rt; Da::new(1).is_ok());
-        assert!(rt; Da::new(16).is_ok());
+        assert!(rt; Processors::new(1).is_ok());
+        assert!(rt; Processors::new(16).is_ok());
         for m in [0, 17, 4_294_967_295] {
-            refused(&rt, Da::new(m), 12, Layer::Board)?;
+            refused(&rt, Processors::new(m), 12, Layer::Board)?;
         }
         Ok(())
     }
@@ -211,22 +236,42 @@ mod tests {
         let table = worked_table()?;
         let mut bounds = [9; 3];
         assert_eq!(rt;
-            analyse(&Da::new(2)?, &table, &[1, 2, 3], &mut bounds)?,
+            analyse(
+                &Da::new(Processors::new(2)?),
+                &table,
+                &[1, 2, 3],
+                &mut bounds
+            )?,
             Some(3)
         );
         assert_eq!(rt; bounds, [2, 4, 0]);
         assert_eq!(rt;
-            analyse(&Da::new(2)?, &table, &[3, 1, 2], &mut bounds)?,
+            analyse(
+                &Da::new(Processors::new(2)?),
+                &table,
+                &[3, 1, 2],
+                &mut bounds
+            )?,
             Some(2)
         );
         assert_eq!(rt; bounds, [4, 0, 3]);
         assert_eq!(rt;
-            analyse(&Da::new(1)?, &table, &[2, 1, 3], &mut bounds)?,
+            analyse(
+                &Da::new(Processors::new(1)?),
+                &table,
+                &[2, 1, 3],
+                &mut bounds
+            )?,
             Some(1)
         );
         assert_eq!(rt; bounds, [0, 2, 0]);
         assert_eq!(rt;
-            analyse(&Da::new(3)?, &table, &[1, 2, 3], &mut bounds)?,
+            analyse(
+                &Da::new(Processors::new(3)?),
+                &table,
+                &[1, 2, 3],
+                &mut bounds
+            )?,
             None
         );
         assert_eq!(rt; bounds, [2, 3, 5]);
@@ -238,7 +283,12 @@ mod tests {
         let mut bounds = [7, 8, 9];
         let orders: [&[usize]; 2] = [&[], &[1]];
         for order in orders {
-            let given = analyse(&Da::new(2)?, &Table::new(), order, &mut bounds);
+            let given = analyse(
+                &Da::new(Processors::new(2)?),
+                &Table::new(),
+                order,
+                &mut bounds,
+            );
             refused(&rt, given, 13, Layer::Study)?;
         }
         assert_eq!(rt; bounds, [7, 8, 9]);
@@ -248,7 +298,7 @@ mod tests {
     #[test]
     fn refuses_what_is_no_order(rt: HostRuntime) -> Result<(), Fail> {
         let table = worked_table()?;
-        let test = Da::new(2)?;
+        let test = Da::new(Processors::new(2)?);
         let mut bounds = [7, 8];
         let orders: [&[usize]; 5] = [&[1, 2], &[1, 2, 2], &[0, 1, 2], &[1, 2, 4], &[1, 2, 3, 3]];
         for order in orders {
@@ -262,7 +312,7 @@ mod tests {
     #[test]
     fn refuses_a_list_of_another_length(rt: HostRuntime) -> Result<(), Fail> {
         let table = worked_table()?;
-        let test = Da::new(2)?;
+        let test = Da::new(Processors::new(2)?);
         let mut short = [7, 8];
         let given = analyse(&test, &table, &[3, 2, 1], &mut short);
         refused(&rt, given, 18, Layer::Study)?;

@@ -8,7 +8,7 @@ mod tests {
     use marking::report::{Outcome, Report, Verdict};
     use std::process::Abort;
     use std::test::Fail;
-    use table::fault::{Fault, Place};
+    use table::{Fault, Place};
 
     const BOARD: &str = "processors overhead test\n2 0 rta\n";
 

@@ -4,19 +4,14 @@
 
 #[cfg(test)]
 mod tests {
-    use bounds::named::NamedTest;
-    use bounds::overhead::Overhead;
-    use bounds::test::Test;
+    use bounds::{NamedTest, Overhead, Processors, Test};
     use orders::assign::assign;
     use orders::grow::grow;
-    use orders::range::Range;
     use orders::settle::settle;
-    use orders::settled::Settled;
+    use orders::{Range, Settled};
     use std::array;
     use std::test::Fail;
-    use table::fault::Fault;
-    use table::row::Row;
-    use table::rows::Table;
+    use table::{Fault, Numbers, Row, Table};
     use worked::worked_table;
 
     // What stands in the lows past the rows. It is not looked at, nor is what stands in the highs.
@@ -529,10 +524,10 @@ mod tests {
         }
     }
 
-    fn table_of(rows: &[(u32, u32, u32)]) -> Result<Table<Row>, Fault> {
+    fn table_of(rows: &[(u32, u32, u32)]) -> Result<Table, Fault> {
         let mut table = Table::new();
         for &(wcet, period, deadline) in rows {
-            table.add(wcet, period, deadline)?;
+            table.add(Numbers::of(wcet, period, deadline))?;
         }
         Ok(table)
     }
@@ -546,7 +541,7 @@ mod tests {
     }
 
     // What is found in a range of a table.
-    fn find<T: Test>(test: &T, table: &Table<Row>, range: &Range) -> Found {
+    fn find<T: Test>(test: &T, table: &Table, range: &Range) -> Found {
         Found {
             order: assign(test, table, range),
             grown: grow(test, table, range),
@@ -576,7 +571,7 @@ mod tests {
         fn find(&self) -> Result<Found, Fault> {
             let table = table_of(self.rows)?;
             let range = self.range();
-            let test = NamedTest::new(self.test.as_bytes(), self.processors)?;
+            let test = NamedTest::new(self.test.as_bytes(), Processors::new(self.processors)?)?;
             match self.overhead {
                 None => Ok(find(&test, &table, &range)),
                 Some(extra) => Ok(find(&Overhead::new(extra, test)?, &table, &range)),
@@ -621,7 +616,7 @@ mod tests {
     #[test]
     fn judges_the_worked_table(rt: HostRuntime) -> Result<(), Fail> {
         let table = worked_table()?;
-        let test = NamedTest::new("rta".as_bytes(), 2)?;
+        let test = NamedTest::new("rta".as_bytes(), Processors::new(2)?)?;
         let lows = range_of(&[2, 2, 3], &[2, 2, 3]);
         let closed = range_of(&[2, 2, 3], &[3, 3, 4]);
         let open = range_of(&[2, 2, 3], &[3, 3, 5]);

@@ -4,19 +4,12 @@
 
 #[cfg(test)]
 mod tests {
-    use bounds::named::NamedTest;
-    use bounds::overhead::Overhead;
-    use bounds::test::Test;
+    use bounds::{NamedTest, Overhead, Processors, Test};
     use std::array;
     use std::process::Abort;
     use std::test::Fail;
-    use study::call::Call;
-    use study::edit::Edit;
-    use study::finding::Finding;
-    use study::room::Room;
-    use study::state::State;
-    use study::study::Study;
-    use table::fault::{Fault, Layer, Place};
+    use study::{Call, Edit, Finding, Room, State, Study};
+    use table::{Fault, Layer, Numbers, Place};
 
     // What stands in a lent list before anything is written there.
     const FOREIGN: u32 = 7;
@@ -500,7 +493,7 @@ mod tests {
     fn study_of(rows: &[(u32, u32, u32)]) -> Result<Study, Fault> {
         let mut study = Study::new();
         for &(wcet, period, deadline) in rows {
-            study.add(wcet, period, deadline)?;
+            study.add(Numbers::of(wcet, period, deadline))?;
         }
         Ok(study)
     }
@@ -525,7 +518,7 @@ mod tests {
         }
 
         fn search(&self) -> Result<Lent, Fault> {
-            let test = NamedTest::new(self.test.as_bytes(), self.processors)?;
+            let test = NamedTest::new(self.test.as_bytes(), Processors::new(self.processors)?)?;
             match self.overhead {
                 None => self.search_under(&test),
                 Some(extra) => self.search_under(&Overhead::new(extra, test)?),
@@ -584,7 +577,7 @@ mod tests {
     const TIGHT: [(u32, u32, u32); 2] = [(2, 3, 3), (2, 3, 3)];
 
     fn rta(processors: u32) -> Result<NamedTest, Fault> {
-        NamedTest::new("rta".as_bytes(), processors)
+        NamedTest::new("rta".as_bytes(), Processors::new(processors)?)
     }
 
     fn lend(rows: &[(u32, u32, u32)]) -> Result<Lent, Fault> {
@@ -633,7 +626,7 @@ mod tests {
         for lent in in_each_state()? {
             let mut lent = lent;
             let before = lent.all();
-            lent.study.add(1, 9, 8)?;
+            lent.study.add(Numbers::of(1, 9, 8))?;
             let rows = before.seen.rows.iter().flatten().count();
             let draft = Seen {
                 rows: array::from_fn(|place| {
@@ -675,11 +668,23 @@ mod tests {
             let mut lent = lent;
             let before = lent.all();
             let rows = lent.study.table().len();
-            is_refused(&rt, lent.study.add(0, 5, 5), bad_row, 11, Layer::Table);
-            is_refused(&rt, lent.study.alter(1, 3, 5, 2), bad_row, 11, Layer::Table);
             is_refused(
                 &rt,
-                lent.study.alter(0, 1, 1, 1),
+                lent.study.add(Numbers::of(0, 5, 5)),
+                bad_row,
+                11,
+                Layer::Table,
+            );
+            is_refused(
+                &rt,
+                lent.study.alter(1, Numbers::of(3, 5, 2)),
+                bad_row,
+                11,
+                Layer::Table,
+            );
+            is_refused(
+                &rt,
+                lent.study.alter(0, Numbers::of(1, 1, 1)),
                 Fault::NoRow,
                 10,
                 Layer::Table,
@@ -696,7 +701,13 @@ mod tests {
         let mut full = lend(&[(1, 1, 1); 32])?;
         full.study.begin(&mut full.ledger, &mut full.pending)?;
         let before = full.all();
-        is_refused(&rt, full.study.add(1, 1, 1), Fault::Full, 9, Layer::Table);
+        is_refused(
+            &rt,
+            full.study.add(Numbers::of(1, 1, 1)),
+            Fault::Full,
+            9,
+            Layer::Table,
+        );
         assert!(rt; full.all() == before);
         Ok(())
     }
@@ -887,30 +898,40 @@ mod tests {
     // The calls that make the worked table, on the way a row that is removed, and search it.
     const CALLS: [Call; 9] = [
         Call::Edit(Edit::Add {
-            wcet: 2,
-            period: 5,
-            deadline: 5,
+            numbers: Numbers {
+                wcet: 2,
+                period: 5,
+                deadline: 5,
+            },
         }),
         Call::Edit(Edit::Add {
-            wcet: 1,
-            period: 4,
-            deadline: 4,
+            numbers: Numbers {
+                wcet: 1,
+                period: 4,
+                deadline: 4,
+            },
         }),
         Call::Edit(Edit::Add {
-            wcet: 3,
-            period: 6,
-            deadline: 6,
+            numbers: Numbers {
+                wcet: 3,
+                period: 6,
+                deadline: 6,
+            },
         }),
         Call::Edit(Edit::Add {
-            wcet: 9,
-            period: 9,
-            deadline: 9,
+            numbers: Numbers {
+                wcet: 9,
+                period: 9,
+                deadline: 9,
+            },
         }),
         Call::Edit(Edit::Alter {
             k: 2,
-            wcet: 2,
-            period: 5,
-            deadline: 5,
+            numbers: Numbers {
+                wcet: 2,
+                period: 5,
+                deadline: 5,
+            },
         }),
         Call::Edit(Edit::Remove { k: 4 }),
         Call::Begin,

@@ -5,9 +5,7 @@
 mod tests {
     use std::process::Abort;
     use std::test::Fail;
-    use table::fault::{Fault, Layer, Place};
-    use table::row::Row;
-    use table::rows::Table;
+    use table::{Fault, Layer, Numbers, Place, Row, Table};
 
     // The fault has this number, layer and place.
     fn is_fault(rt: &impl Abort, fault: Fault, number: u32, layer: Layer, place: Place) {
@@ -26,16 +24,16 @@ mod tests {
     }
 
     // The wcet, the period and the deadline of row `k`.
-    fn numbers_of(table: &Table<Row>, k: usize) -> Result<(u32, u32, u32), Fault> {
+    fn numbers_of(table: &Table, k: usize) -> Result<(u32, u32, u32), Fault> {
         let row = table.row(k)?;
         Ok((row.wcet(), row.period(), row.deadline()))
     }
 
     // Rows 1/10/5, 2/10/5, 3/10/5, and so on.
-    fn rows_of(count: u32) -> Result<Table<Row>, Fail> {
+    fn rows_of(count: u32) -> Result<Table, Fail> {
         let mut table = Table::new();
         for k in 0..count {
-            table.add(k % 5 + 1, 10, 5)?;
+            table.add(Numbers::of(k % 5 + 1, 10, 5))?;
         }
         Ok(table)
     }
@@ -43,8 +41,8 @@ mod tests {
     #[test]
     fn takes_the_largest_row(rt: HostRuntime) -> Result<(), Fail> {
         let mut table = Table::new();
-        table.add(1_000_000, 1_000_000, 1_000_000)?;
-        table.add(1, 1, 1)?;
+        table.add(Numbers::of(1_000_000, 1_000_000, 1_000_000))?;
+        table.add(Numbers::of(1, 1, 1))?;
         assert_eq!(rt; numbers_of(&table, 1)?, (1_000_000, 1_000_000, 1_000_000));
         assert_eq!(rt; numbers_of(&table, 2)?, (1, 1, 1));
         Ok(())
@@ -53,18 +51,18 @@ mod tests {
     #[test]
     fn refuses_what_is_no_row(rt: HostRuntime) -> Result<(), Fail> {
         let mut table = rows_of(3)?;
-        refused(&rt, table.add(0, 5, 5), 11)?;
-        refused(&rt, table.add(3, 5, 2), 11)?;
-        refused(&rt, table.add(2, 5, 6), 11)?;
-        refused(&rt, table.add(1, 1_000_001, 1), 11)?;
+        refused(&rt, table.add(Numbers::of(0, 5, 5)), 11)?;
+        refused(&rt, table.add(Numbers::of(3, 5, 2)), 11)?;
+        refused(&rt, table.add(Numbers::of(2, 5, 6)), 11)?;
+        refused(&rt, table.add(Numbers::of(1, 1_000_001, 1)), 11)?;
         refused(
             &rt,
-            table.add(4_294_967_295, 4_294_967_295, 4_294_967_295),
+            table.add(Numbers::of(4_294_967_295, 4_294_967_295, 4_294_967_295)),
             11,
         )?;
-        refused(&rt, table.alter(2, 0, 5, 5), 11)?;
-        refused(&rt, table.alter(2, 3, 5, 2), 11)?;
-        refused(&rt, table.alter(2, 2, 5, 6), 11)?;
+        refused(&rt, table.alter(2, Numbers::of(0, 5, 5)), 11)?;
+        refused(&rt, table.alter(2, Numbers::of(3, 5, 2)), 11)?;
+        refused(&rt, table.alter(2, Numbers::of(2, 5, 6)), 11)?;
         assert!(rt; table.same(&rows_of(3)?));
         Ok(())
     }
@@ -73,8 +71,8 @@ mod tests {
     fn refuses_the_next_row_when_full(rt: HostRuntime) -> Result<(), Fail> {
         let mut table = rows_of(32)?;
         assert_eq!(rt; table.len(), 32);
-        refused(&rt, table.add(1, 5, 5), 9)?;
-        refused(&rt, table.add(0, 5, 5), 9)?;
+        refused(&rt, table.add(Numbers::of(1, 5, 5)), 9)?;
+        refused(&rt, table.add(Numbers::of(0, 5, 5)), 9)?;
         assert!(rt; table.same(&rows_of(32)?));
         Ok(())
     }
@@ -82,9 +80,9 @@ mod tests {
     #[test]
     fn refuses_a_row_that_is_not_there(rt: HostRuntime) -> Result<(), Fail> {
         let mut table = rows_of(3)?;
-        refused(&rt, table.alter(0, 1, 5, 5), 10)?;
-        refused(&rt, table.alter(0, 0, 5, 5), 10)?;
-        refused(&rt, table.alter(4, 1, 5, 5), 10)?;
+        refused(&rt, table.alter(0, Numbers::of(1, 5, 5)), 10)?;
+        refused(&rt, table.alter(0, Numbers::of(0, 5, 5)), 10)?;
+        refused(&rt, table.alter(4, Numbers::of(1, 5, 5)), 10)?;
         refused(&rt, table.remove(0), 10)?;
         refused(&rt, table.remove(4), 10)?;
         refused(&rt, table.row(0), 10)?;
@@ -96,7 +94,7 @@ mod tests {
     #[test]
     fn alters_one_row(rt: HostRuntime) -> Result<(), Fail> {
         let mut table = rows_of(3)?;
-        table.alter(2, 7, 9, 8)?;
+        table.alter(2, Numbers::of(7, 9, 8))?;
         assert_eq!(rt; table.len(), 3);
         assert_eq!(rt; numbers_of(&table, 1)?, (1, 10, 5));
         assert_eq!(rt; numbers_of(&table, 2)?, (7, 9, 8));
@@ -123,13 +121,13 @@ mod tests {
         assert!(rt; !table.same(&rows_of(1)?));
         assert!(rt; !table.same(&rows_of(3)?));
         let mut other = rows_of(2)?;
-        other.alter(2, 2, 10, 6)?;
+        other.alter(2, Numbers::of(2, 10, 6))?;
         assert!(rt; !table.same(&other));
-        other.alter(2, 2, 11, 5)?;
+        other.alter(2, Numbers::of(2, 11, 5))?;
         assert!(rt; !table.same(&other));
-        other.alter(2, 3, 10, 5)?;
+        other.alter(2, Numbers::of(3, 10, 5))?;
         assert!(rt; !table.same(&other));
-        other.alter(2, 2, 10, 5)?;
+        other.alter(2, Numbers::of(2, 10, 5))?;
         assert!(rt; table.same(&other));
         Ok(())
     }

@@ -5,27 +5,23 @@
 
 ghost use Rattle.std.specs.Prelude.{◌-◌, ◌≤◌};
 
-use bounds::named::NamedTest;
-use bounds::question::Question;
-use bounds::test::Test;
+use bounds::{NamedTest, Processors, Question, Test};
+use orders::Range;
 use orders::grow::grow;
-use orders::range::Range;
 use std::rt::{Clock, Env};
 use std::time::Instant;
 use std::{env, fmt};
-use table::fault::Fault;
-use table::row::Row;
-use table::rows::Table;
+use table::{Fault, Numbers, Row, Table};
 
 const TESTS: [&str; 3] = ["da", "rta", "lc"];
 
 /// Pseudo-random numbers, by a linear congruential generator.
 #[derive(Clone, Copy)]
-struct Numbers {
+struct Random {
     state: u32,
 }
 
-impl Numbers {
+impl Random {
     // A number from 0 to one below `limit`; 0 at the limit 0.
     fn below(&mut self, limit: u32) -> u32
         ensures { result ≤ limit - 1 }
@@ -65,21 +61,25 @@ fn folded(sum: u32, number: u32) -> u32 {
 /// A table, and an estimate for each row.
 #[derive(Drop)]
 struct Case {
-    table: Table<Row>,
+    table: Table,
     estimates: [u32; 32],
 }
 
 impl Case {
     // A table of a kind: the period up to the longest, the deadline up to the period, the wcet up to a fourth of it.
-    fn new(kind: Kind, numbers: &mut Numbers) -> Result<Case, Fault> {
+    fn new(kind: Kind, random: &mut Random) -> Result<Case, Fault> {
         let mut table = Table::new();
         let mut estimates = [0; 32];
         for estimate in estimates.iter_mut().take(kind.rows) {
-            let period = numbers.below(kind.longest) + 1;
-            let deadline = numbers.below(period) + 1;
-            let wcet = numbers.below(deadline / 4) + 1;
-            *estimate = wcet + numbers.below(deadline - wcet + 1);
-            table.add(wcet, period, deadline)?;
+            let period = random.below(kind.longest) + 1;
+            let deadline = random.below(period) + 1;
+            let wcet = random.below(deadline / 4) + 1;
+            *estimate = wcet + random.below(deadline - wcet + 1);
+            table.add(Numbers {
+                wcet,
+                period,
+                deadline,
+            })?;
         }
         Ok(Case { table, estimates })
     }
@@ -128,10 +128,10 @@ impl Case {
 fn checksum<F: Fn(&Case, u32) -> u32>(kind: Kind, tables: u32, measure: F) -> Result<u32, Fault>
     requires { F.IsAlwaysCallable measure }
 {
-    let mut numbers = Numbers { state: 1 };
+    let mut random = Random { state: 1 };
     let mut sum = 0;
     for _ in 0..tables {
-        let case = Case::new(kind, &mut numbers)?;
+        let case = Case::new(kind, &mut random)?;
         sum = measure(&case, sum);
     }
     Ok(sum)
@@ -168,7 +168,7 @@ impl<R: Print + Eprint + Clock> Benchmark<'_, R> {
 
     // Times a question for each task.
     fn time_questions(&self, name: &str) -> anyhow::Result<()> {
-        let test = NamedTest::new(name.as_bytes(), 4)?;
+        let test = NamedTest::new(name.as_bytes(), Processors::new(4)?)?;
         for longest in [1_000, 1_000_000] {
             for rows in [8, 16, 32] {
                 let kind = Kind { rows, longest };
@@ -180,7 +180,7 @@ impl<R: Print + Eprint + Clock> Benchmark<'_, R> {
 
     // Times a growth on each table.
     fn time_growth(&self, name: &str) -> anyhow::Result<()> {
-        let test = NamedTest::new(name.as_bytes(), 4)?;
+        let test = NamedTest::new(name.as_bytes(), Processors::new(4)?)?;
         self.time(name, GROWN, 1, |case, sum| case.grow_one(&test, sum))
     }
 }
