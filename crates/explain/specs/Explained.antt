@@ -30,11 +30,13 @@ numbered words (suc n) = words ++ decimal (suc n)
 -- where a fault lies: its file, its line and its field, where there are such; nothing where there is no sheet
 abbrev pub place_words : Option Form → Place → List ℕ
 place_words None p = []
-place_words (Some form) p = file_name form ++ numbered (codes ", line ") p.line ++ numbered (codes ", field ") p.field ++ codes ": "
+place_words (Some form) p =
+    file_name form ++ numbered (codes ", line ") p.line ++ numbered (codes ", field ") p.field ++ codes ": "
 
 -- the line of a fault: where it lies, its words, and the number of its question
 abbrev pub fault_line : Fault → List ℕ
-fault_line fault = place_words (form_at (place_of fault).sheet) (place_of fault) ++ words_of fault ++ codes " (question " ++ decimal (number_of fault) ++ codes ")"
+fault_line fault =
+    place_words (form_at (place_of fault).sheet) (place_of fault) ++ words_of fault ++ codes " (question " ++ decimal (number_of fault) ++ codes ")"
 
 -- the line of a cause: the file, and what the cause says of it
 abbrev pub cause_line : Form → Cause → List ℕ
@@ -42,7 +44,8 @@ cause_line form cause = file_name form ++ codes " " ++ cause_words cause
 
 -- of a fault by question 1, the line of its cause
 abbrev pub cause_lines : Fault → Form → Given → List (List ℕ)
-cause_lines fault form given = if number_of fault == 1 then map (cause_line form) (option_to_list (cause_of given.source given.text.now)) else []
+cause_lines fault form given =
+    if number_of fault == 1 then map (cause_line form) (option_to_list (cause_of given.source given.text.now)) else []
 
 -- whether line k of a text, as line feeds part it, ends in a carriage return
 abbrev pub ends_in_return : List ℕ → ℕ → Bool
@@ -62,15 +65,19 @@ given_of Board board tasks answer = board
 given_of Tasks board tasks answer = tasks
 given_of Answer board tasks answer = answer
 
--- what else is said of a fault on a sheet, if it lies on one: its cause, and the hint on its line
-abbrev pub fault_notes : Fault → Option Form → Given → Given → Given → List (List ℕ)
-fault_notes fault None board tasks answer = []
-fault_notes fault (Some form) board tasks answer =
+-- what else is said of a fault on a sheet of a form, if it lies on one: its cause, and the hint on its line
+abbrev pub sheet_notes : Fault → Option Form → Given → Given → Given → List (List ℕ)
+sheet_notes fault None board tasks answer = []
+sheet_notes fault (Some form) board tasks answer =
     cause_lines fault form (given_of form board tasks answer) ++ hint_lines form (given_of form board tasks answer).text.now (place_of fault).line
+
+-- what else is said of a fault
+abbrev pub fault_notes : Fault → Given → Given → Given → List (List ℕ)
+fault_notes fault board tasks answer = sheet_notes fault (form_at (place_of fault).sheet) board tasks answer
 
 -- what is said of a fault: its line, and what else is known
 abbrev pub explained_fault : Fault → Given → Given → Given → List (List ℕ)
-explained_fault fault board tasks answer = fault_line fault ∷ fault_notes fault (form_at (place_of fault).sheet) board tasks answer
+explained_fault fault board tasks answer = fault_line fault ∷ fault_notes fault board tasks answer
 
 -- the line of a verdict
 abbrev pub verdict_line : Verdict → List ℕ

@@ -29,23 +29,32 @@ pub struct Given<'a> {
 /// Why a text misses the first question.
 #[derive(Clone, Copy, PartialEq, Eq, Debug)]
 pub enum Cause {
+    /// There is no file.
     Missing,
+    /// The file may not be read.
     Forbidden,
+    /// It is no regular file.
     NotRegular,
+    /// Reading it failed on the way.
     Failed,
+    /// The text has no byte.
     Empty,
+    /// It has more than 4,096 bytes.
     TooLong,
+    /// Its last byte is no line feed.
     Unended,
 }
 
 // The most bytes that the text of a sheet may have.
 const LONGEST: usize = 4096;
 
-/// Why a text misses the first question: how it was come by, where it was not read from its file, and otherwise what
-/// the text is. There is no cause where it was read and does not miss the question.
+/// Why a text misses the first question: how it was come by, where it was not read from its file,
+/// and otherwise what is wrong with it. Where it was read, there is no cause exactly where it does
+/// not miss the question.
 pub fn cause_of(given: Given<'_>) -> Option<Cause>
     ensures cause { result ≡ cause_of given.entry.source given.entry.text.now }
-    ensures sized { given.entry.source ≡ File → (IsNone result ↔ IsSized given.entry.text.now) }
+    ensures sized { given.entry.source ≡ File
+        → (IsNone result ↔ IsSized given.entry.text.now) }
 {
     match given.source {
         Source::Missing => Some(Cause::Missing),

@@ -1,8 +1,7 @@
 // What is said of a report and of a fault.
 ghost use Rattle.std.specs.Prelude.{◌≡◌, [], ◌∷◌, ◌++◌, IfOk, OnOk};
-ghost use Rattle.table.specs.Faults.{place_of};
-ghost use Rattle.explain.specs.Files.{form_at};
-ghost use Rattle.explain.specs.Explained.{lines_text, ends_in_return, given_of, cause_lines, hint_lines, fault_notes, explained_fault, explained_report, explanation};
+ghost use Rattle.explain.specs.Explained.{lines_text, ends_in_return, given_of, cause_lines, hint_lines};
+ghost use Rattle.explain.specs.Explained.{fault_notes, explained_fault, explained_report, explanation};
 
 use crate::cause::{Given, cause_of};
 use crate::file::form_at;
@@ -53,7 +52,8 @@ fn push_cause(
     form: Form,
     given: Given<'_>,
 ) -> Result<(), AllocError>
-    ensures { OnOk result (out.new.items ≡ out.old.items ++ lines_text (cause_lines fault form given.entry)) }
+    ensures { OnOk result
+        (out.new.items ≡ out.old.items ++ lines_text (cause_lines fault form given.entry)) }
 {
     if fault.number() == 1
         && let Some(cause) = cause_of(given)
@@ -71,7 +71,8 @@ fn push_hint(
     text: &[u8],
     line: u32,
 ) -> Result<(), AllocError>
-    ensures { OnOk result (out.new.items ≡ out.old.items ++ lines_text (hint_lines form text.now line)) }
+    ensures { OnOk result
+        (out.new.items ≡ out.old.items ++ lines_text (hint_lines form text.now line)) }
 {
     if ends_in_return(text, line) {
         push_line(out, hint_line(alloc, form, line)?.as_bytes())?;
@@ -88,7 +89,9 @@ fn push_notes(
     tasks: Given<'_>,
     answer: Given<'_>,
 ) -> Result<(), AllocError>
-    ensures { OnOk result (out.new.items ≡ out.old.items ++ lines_text (fault_notes fault (form_at (place_of fault).sheet) board.entry tasks.entry answer.entry)) }
+    ensures { OnOk result
+        (out.new.items ≡ out.old.items
+        ++ lines_text (fault_notes fault board.entry tasks.entry answer.entry)) }
 {
     let place = fault.place();
     let Some(form) = form_at(place.sheet) else {
@@ -107,7 +110,8 @@ fn explain_fault(
     tasks: Given<'_>,
     answer: Given<'_>,
 ) -> Result<Vec<u8>, AllocError>
-    ensures { IfOk result (λ bytes. bytes.items ≡ lines_text (explained_fault fault board.entry tasks.entry answer.entry)) }
+    ensures { IfOk result (λ bytes.
+        bytes.items ≡ lines_text (explained_fault fault board.entry tasks.entry answer.entry)) }
 {
     let mut out = Vec::new(alloc);
     push_line(&mut out, fault_line(alloc, fault)?.as_bytes())?;
@@ -127,8 +131,9 @@ fn explain_report(alloc: Global, report: &Report<'_>) -> Result<Vec<u8>, AllocEr
     Ok(out)
 }
 
-/// The words, for people, on what `mark` says of a board, its tasks and an answer: of a report its verdict and the first
-/// task that misses its estimate, if one does; of a fault where it lies, what it is, and more where more is known.
+/// The words, for people, on what `mark` says of a board, its tasks and an answer: of a report its
+/// verdict, and the first task that misses its estimate, if one does; of a fault where it lies and
+/// what it is, and more where more is known. It fails only where memory is lacking.
 pub fn explain(
     alloc: Global,
     marked: &Result<Report<'_>, Fault>,
@@ -136,7 +141,8 @@ pub fn explain(
     tasks: Given<'_>,
     answer: Given<'_>,
 ) -> Result<Vec<u8>, AllocError>
-    ensures { IfOk result (λ bytes. bytes.items ≡ lines_text (explanation marked.now board.entry tasks.entry answer.entry)) }
+    ensures { IfOk result (λ bytes.
+        bytes.items ≡ lines_text (explanation marked.now board.entry tasks.entry answer.entry)) }
 {
     match marked {
         Ok(report) => explain_report(alloc, report),

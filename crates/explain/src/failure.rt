@@ -7,10 +7,11 @@ use std::alloc::Global;
 use std::io;
 use std::io::{ErrorKind, Write};
 
-/// Says, for people, why a report could not be printed: memory is lacking, or its output could not be written, with the
-/// error's own words.
+/// Says, for people, why a report could not be printed: memory is lacking, or its output could not
+/// be written, with the error's own words. It fails where this cannot be written either.
 pub fn print_failure<E: Write>(alloc: Global, error: &io::Error, err: &mut E) -> io::Result<()>
-    ensures { OnOk result (PrintsFailure (error_kind error.now) (E.contents err.old) (E.contents err.new)) }
+    ensures { OnOk result
+        (PrintsFailure (error_kind error.now) (E.contents err.old) (E.contents err.new)) }
 {
     match error.kind() {
         ErrorKind::OutOfMemory => err.write_all(b"mark: memory is lacking\n"),

@@ -1,7 +1,8 @@
 // The lines of an explanation, each without its line feed.
 ghost use Rattle.std.specs.Prelude.{◌≡◌, IfOk, string_bytes};
 ghost use Rattle.explain.specs.Files.{form_at};
-ghost use Rattle.explain.specs.Explained.{numbered, place_words, fault_line, cause_line, hint_line, verdict_line, miss_words, miss_line};
+ghost use Rattle.explain.specs.Explained.{numbered, place_words, fault_line, cause_line};
+ghost use Rattle.explain.specs.Explained.{hint_line, verdict_line, miss_words, miss_line};
 
 use crate::cause::{Cause, cause_words};
 use crate::file::{file_name, form_at};

@@ -1,5 +1,5 @@
 // Text in, printed tables out, and their explanation to an output of its own.
-ghost use Rattle.std.specs.Prelude.{IfOk};
+ghost use Rattle.std.specs.Prelude.{IfOk, OnOk};
 ghost use Rattle.std.specs.Process.{exit_status};
 ghost use Rattle.marking.specs.Printed.{Prints};
 ghost use Rattle.explain.specs.Printed.{Explains};
@@ -13,8 +13,9 @@ use std::io;
 use std::io::Write;
 use std::process::ExitCode;
 
-/// Prints the report on three texts, or their fault, as `print_marks` does, and explains it on another output. The texts
-/// are marked once. It gives the status to end with.
+/// Prints the report on three texts, or their fault, as `print_marks` does, and says what it means
+/// on another output. The texts are marked once. It gives the status to end with, and fails where
+/// an output cannot be written or memory is lacking.
 pub fn print_explained<W: Write, E: Write>(
     alloc: Global,
     board: Given<'_>,
@@ -23,8 +24,11 @@ pub fn print_explained<W: Write, E: Write>(
     out: &mut W,
     err: &mut E,
 ) -> io::Result<ExitCode>
-    ensures prints { IfOk result (λ status. Prints board.entry.text.now tasks.entry.text.now answer.entry.text.now (W.contents out.old) (W.contents out.new) (exit_status status)) }
-    ensures explains { IfOk result (λ _. Explains board.entry tasks.entry answer.entry (E.contents err.old) (E.contents err.new)) }
+    ensures prints { IfOk result (λ status.
+        Prints board.entry.text.now tasks.entry.text.now answer.entry.text.now
+        (W.contents out.old) (W.contents out.new) (exit_status status)) }
+    ensures explains { OnOk result
+        (Explains board.entry tasks.entry answer.entry (E.contents err.old) (E.contents err.new)) }
 {
     let marked = mark(board.text, tasks.text, answer.text);
     let status = print_marked(alloc, &marked, out)?;

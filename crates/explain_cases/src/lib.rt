@@ -1,5 +1,5 @@
-// Tests of what is said of reports and faults, of the arguments, and of errors. What is expected was worked by hand from
-// the rules.
+// Tests of what is said of reports and faults, of the arguments, and of errors. What is expected was
+// worked by hand from the rules.
 #![tactic(auto)]
 
 #[cfg(test)]
@@ -104,18 +104,18 @@ mod tests {
             [board, tasks, unended],
             "answer.txt",
             "has no line feed at its end",
-        )?;
-        let long = vec![in rt.alloc(); b'\n'; 4097]?;
+        )
+    }
+
+    #[test]
+    fn a_text_may_be_too_long(rt: HostRuntime) -> Result<(), Fail> {
+        let feeds = vec![in rt.alloc(); b'\n'; 4097]?;
         let long = Given {
-            text: &long,
+            text: &feeds,
             source: Source::File,
         };
-        says_cause(
-            &rt,
-            [long, tasks, answer],
-            "board.txt",
-            "has more than 4096 bytes",
-        )
+        let given = [long, read(TASKS), read(ANSWER)];
+        says_cause(&rt, given, "board.txt", "has more than 4096 bytes")
     }
 
     // Three texts, and what is said of them.
@@ -127,7 +127,8 @@ mod tests {
     const FAULTY_TEXTS: [Case<'static>; 8] = [
         Case {
             texts: [BOARD, "task wcet period\na 2 5\n", ANSWER],
-            said: "tasks.txt, line 1: line 1 has not just the names of the sheet, each once (question 2)\n",
+            said: "tasks.txt, line 1: line 1 has not just the names of the sheet, each once \
+                (question 2)\n",
         },
         Case {
             texts: [BOARD, TASKS, "task estimate\na 2\nb 3 4\nc 5\n"],
@@ -139,7 +140,8 @@ mod tests {
                 "task wcet period deadline\na 2 5 5\nb 2 007 5\n",
                 ANSWER,
             ],
-            said: "tasks.txt, line 3, field 3: the field has not the form of its kind (question 4)\n",
+            said: "tasks.txt, line 3, field 3: the field has not the form of its kind \
+                (question 4)\n",
         },
         Case {
             texts: ["processors overhead test\n2 0 rta\n2 0 da\n", TASKS, ANSWER],
@@ -148,13 +150,16 @@ mod tests {
         // A carriage return is no part of a name or a number.
         Case {
             texts: ["processors overhead test\r\n2 0 rta\r\n", TASKS, ANSWER],
-            said: "board.txt, line 1: line 1 has not just the names of the sheet, each once (question 2)\n\
+            said: "board.txt, line 1: line 1 has not just the names of the sheet, each once \
+                (question 2)\n\
                 board.txt, line 1 ends in a carriage return: a line must end in a line feed alone\n",
         },
         Case {
             texts: [BOARD, TASKS, "task estimate\na 2\nb 3\r\nc 5\n"],
-            said: "answer.txt, line 3, field 2: the field has not the form of its kind (question 4)\n\
-                answer.txt, line 3 ends in a carriage return: a line must end in a line feed alone\n",
+            said: "answer.txt, line 3, field 2: the field has not the form of its kind \
+                (question 4)\n\
+                answer.txt, line 3 ends in a carriage return: a line must end in a line feed \
+                alone\n",
         },
         // Another line than the one at fault ends in one.
         Case {
@@ -163,7 +168,8 @@ mod tests {
         },
         Case {
             texts: [BOARD, TASKS, "task estimate\na \r2\nb 3\nc 5\n"],
-            said: "answer.txt, line 2, field 2: the field has not the form of its kind (question 4)\n",
+            said: "answer.txt, line 2, field 2: the field has not the form of its kind \
+                (question 4)\n",
         },
     ];
 
@@ -174,11 +180,13 @@ mod tests {
                 "task wcet period deadline\na 2 5 5\na 2 5 5\n",
                 ANSWER,
             ],
-            said: "tasks.txt, line 3, field 1: the name stands on an earlier line too (question 6)\n",
+            said: "tasks.txt, line 3, field 1: the name stands on an earlier line too \
+                (question 6)\n",
         },
         Case {
             texts: [BOARD, TASKS, "estimate task\n2 a\n3 d\n5 c\n"],
-            said: "answer.txt, line 3, field 2: the name is no task, or stands on an earlier line too (question 7)\n",
+            said: "answer.txt, line 3, field 2: the name is no task, or stands on an earlier \
+                line too (question 7)\n",
         },
         Case {
             texts: [BOARD, TASKS, "task estimate\na 2\nb 3\n"],
@@ -198,7 +206,8 @@ mod tests {
         },
         Case {
             texts: [BOARD, TASKS, "task estimate\na 2\nb 3\nc 7\n"],
-            said: "answer.txt, line 4, field 2: the order or its estimates are not right (question 17)\n",
+            said: "answer.txt, line 4, field 2: the order or its estimates are not right \
+                (question 17)\n",
         },
     ];
 
