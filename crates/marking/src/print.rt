@@ -2,7 +2,7 @@
 ghost use Rattle.std.specs.Prelude.{◌≡◌, IfOk};
 ghost use Rattle.std.specs.Process.{exit_status};
 ghost use Rattle.sheets.specs.Texts.{text_of};
-ghost use Rattle.marking.specs.Printed.{printed_lines, status_after, Prints};
+ghost use Rattle.marking.specs.Printed.{printed_lines, status_after, PrintsMarked, Prints};
 
 use crate::mark::mark;
 use crate::render::{render_fault, render_report};
@@ -33,6 +33,18 @@ fn status_after(marked: &Result<Report<'_>, Fault>) -> ExitCode
     }
 }
 
+/// Prints a report or a fault, and gives the status to end with.
+pub fn print_marked<W: Write>(
+    alloc: Global,
+    marked: &Result<Report<'_>, Fault>,
+    out: &mut W,
+) -> io::Result<ExitCode>
+    ensures { IfOk result (λ status. PrintsMarked marked.now (W.contents out.old) (W.contents out.new) (exit_status status)) }
+{
+    out.write_all(&render(alloc, marked)?)?;
+    Ok(status_after(marked))
+}
+
 /// Prints the report on three texts, or their fault, and gives the status to end with.
 pub fn print_marks<W: Write>(
     alloc: Global,
@@ -44,6 +56,5 @@ pub fn print_marks<W: Write>(
     ensures { IfOk result (λ status. Prints board.now tasks.now answer.now (W.contents out.old) (W.contents out.new) (exit_status status)) }
 {
     let marked = mark(board, tasks, answer);
-    out.write_all(&render(alloc, &marked)?)?;
-    Ok(status_after(&marked))
+    print_marked(alloc, &marked, out)
 }

@@ -1,0 +1,3 @@
+mod Ending
+mod Sole
+mod Worded

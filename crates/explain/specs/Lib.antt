@@ -1,0 +1,6 @@
+pub mod Arguments
+pub mod Causes
+pub mod Explained
+pub mod Failures
+pub mod Files
+pub mod Printed

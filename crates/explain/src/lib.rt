@@ -1,0 +1,9 @@
+#![tactic(auto)]
+
+pub mod arguments;
+pub mod cause;
+pub mod explanation;
+pub mod failure;
+pub mod file;
+mod lines;
+pub mod print;
