@@ -9,7 +9,6 @@ use Rattle.sheets.specs.Sheets.{left_of}
 use Rattle.sheets.specs.Pairs.{count_of, name_place, IsNewName, Answers, IsAnswered, EachLine, FirstLine, PairFails}
 use Rattle.sheets.proofs.Outcomes.{level}
 use Rattle.marking.specs.Questions.{HasTest, TestMisses, HasRow, RowMisses, HasEstimate, EstimateMisses, IsPaired, SheetsMiss, by_test, by_pair, by_row, by_estimate}
-use Rattle.bounds.specs.Questions.{question}
 
 module _ (question : ℕ → Type 0) (n : ℕ) where
   -- one line is the first to miss a question

@@ -1,5 +1,5 @@
 -- A search leaves the table as it was, and what it shows is what is promised.
-use Rattle.std.proofs.Common.{◌≡◌, ℕ, ◌-◌, ◌≤◌, List, [], length, take, refl, sym, ap, subst, ◌∙◌, arith}
+use Rattle.std.proofs.Common.{◌≡◌, ℕ, ◌-◌, ◌≤◌, List, length, take, refl, sym, ap, subst, ◌∙◌, arith}
 use Rattle.std.specs.Option.{IfSome}
 use Rattle.table.specs.declared.row.Row.{Row}
 use Rattle.table.specs.Rows.{Table}

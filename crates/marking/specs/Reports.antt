@@ -1,5 +1,5 @@
 -- What a report says.
-use Rattle.std.specs.Prelude.{◌≡◌, ℕ, ◌+◌, ◌<◌, ◌≤◌, Bool, List, [], map, length, Some, None, Ok, ◌⊎◌, Option, Result, MatchOption, MatchResult}
+use Rattle.std.specs.Prelude.{◌≡◌, ℕ, ◌+◌, ◌<◌, ◌≤◌, List, [], map, length, Some, None, Ok, ◌⊎◌, Option, Result, MatchOption, MatchResult}
 use Rattle.table.specs.declared.row.Row.{Row}
 use Rattle.table.specs.declared.fault.Fault.{Fault}
 use Rattle.table.specs.Places.{nth}
@@ -22,7 +22,7 @@ use Rattle.study.specs.Moments.{Moment, moment}
 use Rattle.study.specs.Begins.{HasRoom}
 use Rattle.study.specs.Histories.{Since, History, Means}
 use Rattle.study.specs.Searches.{Searched}
-use Rattle.sheets.specs.declared.form.Column.TheVariants.{Wcet, Period, Deadline, Estimate}
+use Rattle.sheets.specs.declared.form.Column.TheVariants.{Estimate}
 use Rattle.sheets.specs.declared.sheet.Sheet.{Sheet}
 use Rattle.sheets.specs.declared.form.Form.TheVariants.{Board, Tasks, Answer}
 use Rattle.sheets.specs.Sheets.{ReadsText}

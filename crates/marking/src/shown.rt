@@ -11,9 +11,7 @@ use crate::fields::field;
 use crate::report::{Outcome, Report, Verdict};
 use bounds::{Miss, NamedTest, Overhead};
 use sheets::{Column, Sheet};
-use study::Finding;
-use study::State;
-use study::Study;
+use study::{Finding, State, Study};
 use table::Fault;
 
 /// How many numbers each list of a search has: 96 slots of 64.

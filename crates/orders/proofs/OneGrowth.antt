@@ -1,5 +1,5 @@
 -- A range grows to one range.
-use Rattle.std.proofs.Common.{◌≡◌, ℕ, suc, Bool, List, Option, sym, refl, ap, subst, ◌∙◌, inl, inr, arith}
+use Rattle.std.proofs.Common.{◌≡◌, ℕ, suc, List, sym, refl, ap, subst, ◌∙◌, inl, inr, arith}
 use Rattle.std.proofs.lemmas.Bool.{cases_lt}
 use Rattle.table.specs.declared.row.Row.{Row}
 use Rattle.orders.specs.declared.range.Range.{Range}

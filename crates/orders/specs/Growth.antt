@@ -1,5 +1,5 @@
 -- Growth: row by row, the low down and then the high up as far as the range stays closed.
-use Rattle.std.specs.Prelude.{◌≡◌, ℕ, suc, ◌+◌, ◌-◌, ◌<◌, ◌≤◌, Bool, List, length, Option}
+use Rattle.std.specs.Prelude.{◌≡◌, ℕ, suc, ◌+◌, ◌-◌, ◌<◌, ◌≤◌, List, length}
 use Rattle.table.specs.declared.row.Row.{Row}
 use Rattle.table.specs.Places.{put}
 use Rattle.table.specs.Rows.{row}

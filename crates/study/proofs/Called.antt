@@ -1,6 +1,5 @@
 -- The promise after any call.
-use Rattle.std.proofs.Common.{◌≡◌, ℕ, ◌/◌, Bool, List, length, Ok, Err, Result, Option, subst, arith}
-use Rattle.table.specs.declared.row.Row.{Row}
+use Rattle.std.proofs.Common.{◌≡◌, ℕ, ◌/◌, List, length, Ok, Err, Result, subst, arith}
 use Rattle.table.specs.declared.fault.Fault.{Fault}
 use Rattle.bounds.specs.Questions.{Meaning, Laws}
 use Rattle.study.specs.declared.study.Study.{Study}

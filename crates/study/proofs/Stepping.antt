@@ -1,7 +1,6 @@
 -- A step's work, from what is done with the range that it takes.
-use Rattle.std.proofs.Common.{◌≡◌, ℕ, ◌+◌, ◌-◌, ◌≤◌, ◌<◌, Bool, ◌⊎◌, List, length, Option, subst, inl, inr}
+use Rattle.std.proofs.Common.{◌≡◌, ◌+◌, ◌-◌, ◌≤◌, ◌<◌, ◌⊎◌, length, subst, inl, inr}
 use Rattle.std.proofs.lemmas.Bool.{cases_lt}
-use Rattle.table.specs.declared.row.Row.{Row}
 use Rattle.orders.specs.declared.range.Range.{Range}
 use Rattle.study.specs.declared.room.Room.{Room}
 use Rattle.study.specs.declared.finding.Finding.{Finding}

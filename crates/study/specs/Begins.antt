@@ -1,5 +1,5 @@
 -- What begin does.
-use Rattle.std.specs.Prelude.{◌≡◌, ℕ, ◌≤◌, length, Ok, Result}
+use Rattle.std.specs.Prelude.{◌≡◌, ◌≤◌, length, Ok, Result}
 use Rattle.table.specs.declared.fault.Fault.{Fault}
 use Rattle.table.specs.declared.fault.Fault.TheVariants.{Empty, BadSlots}
 use Rattle.table.specs.Asking.{Asks, Refuses}

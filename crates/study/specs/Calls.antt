@@ -1,7 +1,5 @@
 -- What each call of a study does.
 use Rattle.std.specs.Prelude.{◌≡◌, [], IfOk, IfErr, Result}
-use Rattle.table.specs.declared.row.Row.{Row}
-use Rattle.table.specs.declared.numbers.Numbers.{Numbers}
 use Rattle.table.specs.declared.fault.Fault.{Fault}
 use Rattle.table.specs.Rows.{Table, view, Adds, Alters, Removes}
 use Rattle.study.specs.declared.edit.Edit.{Edit}

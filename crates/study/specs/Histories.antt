@@ -1,5 +1,5 @@
 -- Histories of calls, and the law that holds after each call.
-use Rattle.std.specs.Prelude.{◌≡◌, ℕ, ◌+◌, ◌/◌, ◌≤◌, Bool, true, false, List, length, take, Ok, Err, Result, IfOk, IfErr, Option}
+use Rattle.std.specs.Prelude.{◌≡◌, ℕ, ◌+◌, ◌/◌, ◌≤◌, Bool, true, false, List, length, take, Ok, Err, Result, IfOk, IfErr}
 use Rattle.table.specs.declared.row.Row.{Row}
 use Rattle.table.specs.declared.fault.Fault.{Fault}
 use Rattle.bounds.specs.Orders.{Order, Estimates, Holds, HasLate}

@@ -1,6 +1,5 @@
 -- What a study does with any call.
-use Rattle.std.specs.Prelude.{◌≡◌, ℕ, Bool, List, Result, Option}
-use Rattle.table.specs.declared.row.Row.{Row}
+use Rattle.std.specs.Prelude.{◌≡◌, ℕ, List, Result}
 use Rattle.table.specs.declared.fault.Fault.{Fault}
 use Rattle.study.specs.declared.call.Call.{Call}
 use Rattle.study.specs.declared.call.Call.TheVariants as call

@@ -1,6 +1,5 @@
 -- What a search does: an accepted begin, and accepted steps until there is a verdict.
-use Rattle.std.specs.Prelude.{◌≡◌, ℕ, ◌+◌, ◌/◌, ◌≤◌, Bool, true, List, length, Ok, Result, IfOk, IfErr, Option}
-use Rattle.table.specs.declared.row.Row.{Row}
+use Rattle.std.specs.Prelude.{◌≡◌, ℕ, ◌+◌, ◌/◌, ◌≤◌, true, List, length, Ok, Result, IfOk, IfErr}
 use Rattle.table.specs.declared.fault.Fault.{Fault}
 use Rattle.table.specs.declared.fault.Fault.TheVariants.{Empty, BadSlots}
 use Rattle.table.specs.Asking.{Asks, Refuses}

@@ -4,8 +4,8 @@ ghost use Rattle.table.specs.Rows.{view};
 ghost use Rattle.study.specs.Steps.{ZeroPast, IsSlot};
 ghost use Rattle.study.specs.Slots.{written_over, slot, put_slot, HasSlots};
 
-use orders::assign::is_range;
 use orders::Range;
+use orders::assign::is_range;
 use table::{Row, Table};
 
 // How many numbers a slot has, and how many rows they are for.

@@ -1,11 +1,10 @@
 -- What an accepted add leaves: the row of these numbers after the others.
-use Rattle.std.proofs.Common.{◌≡◌, ◌<◌, List, [], ◌∷◌, ◌++◌, length, Ok, Err, Result, MatchResult, ap, sym, subst, ◌∙◌}
+use Rattle.std.proofs.Common.{◌≡◌, ◌<◌, List, [], ◌∷◌, ◌++◌, length, Ok, Result, MatchResult, ap, sym, subst, ◌∙◌}
 use Rattle.table.specs.declared.numbers.Numbers.{Numbers}
 use Rattle.table.specs.declared.row.Row.{Row}
 use Rattle.table.specs.declared.fault.Fault.{Fault}
 use Rattle.table.specs.Asking.{Refuses}
 use Rattle.table.specs.Rows.{Table, view, Adds, MadeRow}
-use Rattle.table.proofs.Asked.{ok_err}
 use Rattle.table.proofs.Equal.{numbers, same_row}
 
 -- a row of its own numbers is made, and is this row

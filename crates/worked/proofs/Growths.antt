@@ -1,12 +1,11 @@
 -- The greatest high that leaves a range closed is known by the next one.
-use Rattle.std.proofs.Common.{◌≡◌, ℕ, suc, ◌+◌, ◌≤◌, Bool, List, length, Option, sym, refl, ap, subst, ◌∙◌, inl, inr, arith}
-use Rattle.std.proofs.lemmas.Bool.{cases_lt}
+use Rattle.std.proofs.Common.{ℕ, ◌+◌, ◌≤◌, List, length, refl, arith}
 use Rattle.table.specs.declared.row.Row.{Row}
 use Rattle.table.specs.Rows.{row, Names}
 use Rattle.bounds.specs.Questions.{Meaning, Laws}
 use Rattle.orders.specs.declared.range.Range.{Range}
 use Rattle.orders.specs.Ranges.{high, Within, Open, Closed}
-use Rattle.orders.specs.Growth.{with_low, with_high, LowGrown, HighGrown, GrownTo, start, next}
+use Rattle.orders.specs.Growth.{with_low, with_high, LowGrown, HighGrown}
 use Rattle.orders.proofs.Narrows.{widening}
 use Rattle.orders.proofs.Moves.{within_high, contains_high}
 

@@ -1,6 +1,5 @@
 use Rattle.std.proofs.Common.{◌<◌, ◌∙◌, sym, ap, subst, refl, arith}
 use Rattle.table.specs.declared.fault.Fault.TheVariants.{BadTest}
-use Rattle.bounds.specs.Made.{Allowed}
 use Rattle.std.proofs.lemmas.Bool.{false≢true}
 use Rattle.bounds.specs.Named.{IsTestName}
 use Rattle.sheets.specs.declared.form.Form.TheVariants.{Board}

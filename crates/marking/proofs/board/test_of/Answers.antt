@@ -1,10 +1,10 @@
-use Rattle.std.proofs.Common.{◌≡◌, sym, subst, ◌∙◌, arith}
+use Rattle.std.proofs.Common.{sym, subst, ◌∙◌, arith}
 use Rattle.table.proofs.Asked.{ok_err}
 use Rattle.bounds.specs.Made.{MadeProcessors}
 use Rattle.bounds.specs.Named.{IsNamed}
 use Rattle.sheets.specs.declared.form.Form.TheVariants.{Board}
-use Rattle.sheets.specs.declared.form.Column.TheVariants.{Processors, Overhead, Test}
-use Rattle.marking.proofs.Full.{test_there, overhead_there, processors_there, has_field, has_number, small_number}
+use Rattle.sheets.specs.declared.form.Column.TheVariants.{Overhead, Test}
+use Rattle.marking.proofs.Full.{test_there, overhead_there, has_field, has_number, small_number}
 use Rattle.marking.proofs.Suited.{known_here, allowed_here, processors_made, named_made, test_made}
 use Rattle.marking.proofs.board.test_of.Goals as goal
 

@@ -1,4 +1,3 @@
-use Rattle.std.proofs.Common.{ap₂, ◌∙◌}
 use Rattle.sheets.specs.declared.form.Form.TheVariants.{Tasks}
 use Rattle.sheets.specs.declared.form.Column.TheVariants.{Wcet, Period, Deadline}
 use Rattle.marking.proofs.Full.{wcet_there, period_there, deadline_there, has_number}

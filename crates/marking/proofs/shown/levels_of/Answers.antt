@@ -4,7 +4,7 @@ use Rattle.table.specs.Places.{nth}
 use Rattle.table.proofs.Placed.{nth_at, nth_next, nth_replicate}
 use Rattle.sheets.specs.declared.form.Form.TheVariants.{Tasks}
 use Rattle.sheets.specs.declared.form.Column.TheVariants.{Task}
-use Rattle.sheets.specs.Pairs.{count_of, task_of}
+use Rattle.sheets.specs.Pairs.{task_of}
 use Rattle.marking.specs.Reports.{LevelsOf, BlankPast}
 use Rattle.marking.proofs.Full.{task_there, has_field}
 use Rattle.marking.proofs.Levelled.{levels_more, blank_more, no_levels, task_row}

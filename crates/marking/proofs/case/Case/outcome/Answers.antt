@@ -1,6 +1,5 @@
 use Rattle.std.proofs.Common.{◌≤◌, refl, ap, arith}
 use Rattle.table.specs.Rows.{Table}
-use Rattle.table.specs.declared.row.Row.{Row}
 use Rattle.table.specs.Rows.{view}
 use Rattle.sheets.specs.Pairs.{count_of}
 use Rattle.marking.proofs.Answered.{not_refused, first_of, miss_row, answer_checked}

@@ -1,6 +1,5 @@
 use Rattle.std.proofs.Common.{rules, Ok, Err}
-use Rattle.table.specs.declared.fault.Fault.TheVariants.{Empty, BadSlots}
-use Rattle.study.specs.Begins.{Begins}
+use Rattle.table.specs.declared.fault.Fault.TheVariants.{Empty}
 use Rattle.study.specs.Moments.{moment}
 use Rattle.study.proofs.Called.{begin_promise}
 use Rattle.study.proofs.study.Study.begin.Goals as goal
