@@ -1,0 +1,64 @@
+// The texts of the sheets in a folder.
+ghost use Rattle.std.specs.Prelude.{◌≡◌, codes, IfOk, IfErr, string_bytes};
+ghost use Rattle.std.specs.Fn.{FnReturnsAt};
+ghost use Rattle.std.specs.IoError.{error_kind};
+ghost use Rattle.folder.specs.Folders.{file_name, path_of, IsSheetText, AreTexts};
+
+use crate::read::read_text;
+use crate::stream::Stream;
+use crate::text::{Text, Texts};
+use sheets::form::Form;
+use std::alloc::{AllocError, Global};
+use std::io;
+use std::io::ErrorKind;
+
+// The name of the file that has a sheet.
+fn file_name(form: Form) -> &'static str
+    ensures { result.now ≡ file_name form }
+{
+    match form {
+        Form::Board => "board.txt",
+        Form::Tasks => "tasks.txt",
+        Form::Answer => "answer.txt",
+    }
+}
+
+// Its path.
+fn path_of(alloc: Global, folder: &str, form: Form) -> Result<String, AllocError>
+    ensures { IfOk result (λ path. string_bytes path ≡ path_of folder.now form) }
+{
+    let name = file_name(form);
+    format!(in alloc; "{folder}/{name}")
+}
+
+// The text of a sheet in a folder.
+fn read_sheet<S: Stream, F: Fn(&str) -> io::Result<Option<S>>>(
+    alloc: Global,
+    folder: &str,
+    form: Form,
+    opener: &F,
+) -> io::Result<Text>
+    requires { F.IsAlwaysCallable opener.now }
+    ensures text { IfOk result (IsSheetText S.remaining S.fails (FnReturnsAt F.Fn opener.now) folder.now form) }
+    ensures memory { IfErr result (λ error. error_kind error ≡ ErrorKind.OutOfMemory) }
+{
+    let path = path_of(alloc, folder, form)?;
+    read_text(alloc, opener(&path))
+}
+
+/// The texts of the sheets in a folder, as they are read of what opening their files gives.
+pub fn read_sheets<S: Stream, F: Fn(&str) -> io::Result<Option<S>>>(
+    alloc: Global,
+    folder: &str,
+    opener: F,
+) -> io::Result<Texts>
+    requires { F.IsAlwaysCallable opener }
+    ensures texts { IfOk result (AreTexts S.remaining S.fails (FnReturnsAt F.Fn opener) folder.now) }
+    ensures memory { IfErr result (λ error. error_kind error ≡ ErrorKind.OutOfMemory) }
+{
+    Ok(Texts {
+        board: read_sheet(alloc, folder, Form::Board, &opener)?,
+        tasks: read_sheet(alloc, folder, Form::Tasks, &opener)?,
+        answer: read_sheet(alloc, folder, Form::Answer, &opener)?,
+    })
+}
