@@ -1,9 +1,8 @@
 -- Each text that is read has at most 4,097 bytes, and none but those of a file.
-use Rattle.std.proofs.Common.{◌≡◌, ℕ, ◌≤◌, [], List, Option, None, Some, Result, Ok, Err, inl, inr, rules, vec_len, arith}
+use Rattle.std.proofs.Common.{◌≡◌, ℕ, [], List, Option, None, Some, Result, Ok, Err, inl, inr, rules}
 use Rattle.std.specs.declared.io.Error.{Error}
 use Rattle.folder.specs.declared.text.Text.{Text}
-use Rattle.folder.specs.declared.text.Texts.{Texts}
-use Rattle.folder.specs.Folders.{TextOf, IsSheetText, AreTexts, IsText}
+use Rattle.folder.specs.Folders.{TextOf, IsSheetText, IsText}
 
 -- a text of no byte
 none : (text : Text) → text.bytes.items ≡ [] → IsText text

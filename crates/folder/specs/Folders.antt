@@ -34,7 +34,7 @@ pub record IsLost (error : Error) (text : Text) : Type 0 where
   pub bytes : text.bytes.items ≡ []
   pub source : text.source ≡ source_of (error_kind error)
 
--- The text is that of a stream which is read without an error: at most 4,097 bytes, and the first 4,097 of the stream's where these are known.
+-- The text is that of a stream which is read without an error: at most 4,097 bytes, and the first 4,097 of its bytes where these are known.
 pub record IsStart (known : Option (List ℕ)) (text : Text) : Type 0 where
   pub most : vec_len text.bytes ≤ 4097
   pub bytes : IfSome known (λ bytes. text.bytes.items ≡ take 4097 bytes)

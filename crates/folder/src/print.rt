@@ -17,7 +17,8 @@ use std::process::ExitCode;
 
 /// Prints what there is to say of the three texts, and gives the status to end with.
 pub fn print_texts<W: Write>(alloc: Global, texts: &Texts, out: &mut W) -> io::Result<ExitCode>
-    ensures { IfOk result (λ status. PrintsTexts texts.now (W.contents out.old) (W.contents out.new) (exit_status status)) }
+    ensures { IfOk result (λ status. PrintsTexts texts.now
+        (W.contents out.old) (W.contents out.new) (exit_status status)) }
 {
     let board = &texts.board.bytes;
     let tasks = &texts.tasks.bytes;
@@ -25,7 +26,8 @@ pub fn print_texts<W: Write>(alloc: Global, texts: &Texts, out: &mut W) -> io::R
     print_marks(alloc, board, tasks, answer, out)
 }
 
-/// Prints what there is to say of the sheets in a folder, as they are read of what opening their files gives.
+/// Prints what there is to say of the sheets in a folder, each of what the opener gives at its file's path, and gives the
+/// status to end with.
 pub fn print_sheets<S: Stream, F: Fn(&str) -> io::Result<Option<S>>, W: Write>(
     alloc: Global,
     folder: &str,
@@ -33,7 +35,8 @@ pub fn print_sheets<S: Stream, F: Fn(&str) -> io::Result<Option<S>>, W: Write>(
     out: &mut W,
 ) -> io::Result<ExitCode>
     requires { F.IsAlwaysCallable opener }
-    ensures { IfOk result (λ status. PrintsSheets S.remaining S.fails (FnReturnsAt F.Fn opener) folder.now
+    ensures { IfOk result (λ status.
+        PrintsSheets S.remaining S.fails (FnReturnsAt F.Fn opener) folder.now
         (W.contents out.old) (W.contents out.new) (exit_status status)) }
 {
     let texts = read_sheets(alloc, folder, opener)?;
@@ -46,7 +49,8 @@ pub fn print_folder<R: Files + AllocGlobal, W: Write>(
     folder: &str,
     out: &mut W,
 ) -> io::Result<ExitCode>
-    ensures { IfOk result (λ status. PrintsThree (W.contents out.old) (W.contents out.new) (exit_status status)) }
+    ensures { IfOk result (λ status. PrintsThree
+        (W.contents out.old) (W.contents out.new) (exit_status status)) }
 {
     print_sheets(rt.alloc(), folder, |path: &str| open_file(rt, path), out)
 }

@@ -1,10 +1,9 @@
 // The text of a sheet, from a stream.
-ghost use Rattle.std.specs.Prelude.{◌≡◌, ◌≢◌, ◌≤◌, [], take, length, vec_len, Option, Some, None, Ok, Err, IfOk, IfErr, IfSome, MatchResult, ◌⊎◌};
+ghost use Rattle.std.specs.Prelude.{◌≡◌, take, length, IfOk, IfErr, IfSome, MatchResult, ◌⊎◌};
 ghost use Rattle.std.specs.Io.{ReadsAtMost};
 ghost use Rattle.std.specs.Io.KnownBytes.{ReadConsumes};
 ghost use Rattle.std.specs.IoError.{error_kind};
 ghost use Rattle.std.specs.declared.io.Error.{Error};
-ghost use Rattle.folder.specs.declared.text.Source.TheVariants.{File as Regular};
 ghost use Rattle.folder.specs.Folders.{source_of, IsLost, IsStart, TextOf, WantsMemory};
 
 use crate::stream::Stream;
@@ -16,7 +15,8 @@ use std::io::ErrorKind;
 /// How many bytes of a file are read at most: one more than a sheet may have, so that a longer file is too long.
 const MOST: usize = 4097;
 
-// One read, again where a signal interrupts it. Signals may go on for ever, so the last of 2^64 - 1 reads counts.
+// One read. An interrupted one is no failure and is tried again, as the standard library does. Nobody can say how often,
+// so of 2^64 - 1 tries the last counts whatever it gives.
 fn read_some<S: Stream>(stream: &mut S, room: &mut [u8]) -> io::Result<usize>
     ensures bound { ReadsAtMost result room.new }
     ensures bytes { ReadConsumes (S.remaining stream.old) (S.remaining stream.new) result room.new }
@@ -35,7 +35,8 @@ fn read_some<S: Stream>(stream: &mut S, room: &mut [u8]) -> io::Result<usize>
 // Reads until the room is full or no byte is left, and gives how many bytes were read.
 fn fill<S: Stream>(stream: &mut S, room: &mut [u8]) -> io::Result<usize>
     ensures bound { ReadsAtMost result room.new }
-    ensures first { IfOk result (λ n. IfSome (S.remaining stream.old) (λ bytes. take n room.new ≡ take (length room.old) bytes)) }
+    ensures first { IfOk result (λ n. IfSome (S.remaining stream.old)
+        (λ bytes. take n room.new ≡ take (length room.old) bytes)) }
     ensures error { IfErr result (S.fails stream.old) }
 {
     let mut filled = 0;
@@ -52,7 +53,8 @@ fn fill<S: Stream>(stream: &mut S, room: &mut [u8]) -> io::Result<usize>
 // The first bytes of a stream.
 fn read_start<S: Stream>(alloc: Global, mut stream: S) -> io::Result<Text>
     ensures start { IfOk result (IsStart (S.remaining stream)) }
-    ensures error { IfErr result (λ error. S.fails stream error ⊎ (error_kind error ≡ ErrorKind.OutOfMemory)) }
+    ensures error { IfErr result
+        (λ error. S.fails stream error ⊎ (error_kind error ≡ ErrorKind.OutOfMemory)) }
 {
     let mut bytes = vec![in alloc; 0; MOST]?;
     let filled = fill(&mut stream, &mut bytes)?;
@@ -76,7 +78,8 @@ fn source_of(error: &io::Error) -> Source
 
 // The text of a sheet that an error keeps from being read. Want of memory is passed on.
 fn lost(alloc: Global, error: io::Error) -> io::Result<Text>
-    ensures { MatchResult result (IsLost error) (λ want. (want ≡ error) × (error_kind error ≡ ErrorKind.OutOfMemory)) }
+    ensures { MatchResult result (IsLost error)
+        (λ want. (want ≡ error) × (error_kind error ≡ ErrorKind.OutOfMemory)) }
 {
     if error.kind() == ErrorKind::OutOfMemory {
         return Err(error);
@@ -87,10 +90,11 @@ fn lost(alloc: Global, error: io::Error) -> io::Result<Text>
     })
 }
 
-/// The text of a sheet, of what came of opening its file. There is none where reading wants memory.
-pub fn read_text<S: Stream>(alloc: Global, opened: io::Result<Option<S>>) -> io::Result<Text>
+/// The text of a sheet, of what came of opening its file. The one error is want of memory.
+pub(crate) fn read_text<S: Stream>(alloc: Global, opened: io::Result<Option<S>>) -> io::Result<Text>
     ensures text { IfOk result (TextOf S.remaining S.fails opened) }
-    ensures memory { IfErr result (λ error. (error_kind error ≡ ErrorKind.OutOfMemory) × WantsMemory opened error) }
+    ensures memory { IfErr result
+        (λ error. (error_kind error ≡ ErrorKind.OutOfMemory) × WantsMemory opened error) }
 {
     match opened {
         Ok(Some(stream)) => match read_start(alloc, stream) {

@@ -1,5 +1,5 @@
 // The texts of the sheets in a folder.
-ghost use Rattle.std.specs.Prelude.{◌≡◌, codes, IfOk, IfErr, string_bytes};
+ghost use Rattle.std.specs.Prelude.{◌≡◌, IfOk, IfErr, string_bytes};
 ghost use Rattle.std.specs.Fn.{FnReturnsAt};
 ghost use Rattle.std.specs.IoError.{error_kind};
 ghost use Rattle.folder.specs.Folders.{file_name, path_of, IsSheetText, AreTexts};
@@ -39,21 +39,23 @@ fn read_sheet<S: Stream, F: Fn(&str) -> io::Result<Option<S>>>(
     opener: &F,
 ) -> io::Result<Text>
     requires { F.IsAlwaysCallable opener.now }
-    ensures text { IfOk result (IsSheetText S.remaining S.fails (FnReturnsAt F.Fn opener.now) folder.now form) }
+    ensures text { IfOk result
+        (IsSheetText S.remaining S.fails (FnReturnsAt F.Fn opener.now) folder.now form) }
     ensures memory { IfErr result (λ error. error_kind error ≡ ErrorKind.OutOfMemory) }
 {
     let path = path_of(alloc, folder, form)?;
     read_text(alloc, opener(&path))
 }
 
-/// The texts of the sheets in a folder, as they are read of what opening their files gives.
+/// The texts of the sheets in a folder, each of what the opener gives at its file's path. The one error is want of memory.
 pub fn read_sheets<S: Stream, F: Fn(&str) -> io::Result<Option<S>>>(
     alloc: Global,
     folder: &str,
     opener: F,
 ) -> io::Result<Texts>
     requires { F.IsAlwaysCallable opener }
-    ensures texts { IfOk result (AreTexts S.remaining S.fails (FnReturnsAt F.Fn opener) folder.now) }
+    ensures texts { IfOk result
+        (AreTexts S.remaining S.fails (FnReturnsAt F.Fn opener) folder.now) }
     ensures memory { IfErr result (λ error. error_kind error ≡ ErrorKind.OutOfMemory) }
 {
     Ok(Texts {

@@ -1,4 +1,4 @@
-use Rattle.std.proofs.Common.{◌≡◌, ℕ, ◌≤◌, List, ◌++◌, length, take, drop, Option, None, Some, IfSome, arith, ap, ◌∙◌, take-take, refl}
+use Rattle.std.proofs.Common.{◌≡◌, ℕ, ◌≤◌, List, ◌++◌, length, take, Option, None, Some, IfSome, arith, ap, ◌∙◌, take-take, refl}
 use Rattle.std.proofs.lemmas.List.{take-append-le}
 use Rattle.folder.proofs.read.read_start.Goals as goal
 
