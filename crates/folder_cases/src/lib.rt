@@ -279,7 +279,10 @@ mod tests {
             }
             Ok(Some(scripted(&[])))
         };
-        assert_eq!(rt; error_kind(read_sheets(rt.alloc(), "f", opener)), Some(memory));
+        assert_eq!(rt;
+            error_kind(read_sheets(rt.alloc(), "f", opener)),
+            Some(memory)
+        );
         Ok(())
     }
 
