@@ -2,11 +2,9 @@
 #![tactic(auto)]
 
 use folder::print::print_folder;
-use folder::read::read_start;
-use std::fs::File;
-use std::io;
 use std::io::Write;
 use std::process::ExitCode;
+use std::{fs, io};
 
 const FOLDERS: [&str; 7] = [
     "worked",
@@ -21,10 +19,7 @@ const FOLDERS: [&str; 7] = [
 fn show(rt: &HostRuntime, folder: &str) -> io::Result<()> {
     let mut printed = Vec::new(rt.alloc());
     let status = print_folder(rt, folder, &mut printed)?;
-    let expected = read_start(
-        rt.alloc(),
-        File::open(rt, &format!(in rt.alloc(); "{folder}/expected.txt")?)?,
-    )?;
+    let expected = fs::read(rt, &format!(in rt.alloc(); "{folder}/expected.txt")?)?;
     if *printed != *expected {
         return rt.stdout().write_all(&printed);
     }

@@ -89,8 +89,7 @@ pub fn explain_sheets<S: Stream, F: Fn(&str) -> io::Result<Option<S>>, W: Write,
         (W.contents out.old) (W.contents out.new)
         (E.contents err.old) (E.contents err.new) (exit_status status)) }
 {
-    let texts = read_sheets(alloc, folder, opener)?;
-    explain_texts(alloc, &texts, out, err)
+    explain_texts(alloc, &read_sheets(alloc, folder, opener)?, out, err)
 }
 
 /// Prints what there is to say of the sheets in a folder, and says what it means on another output; gives the status to end

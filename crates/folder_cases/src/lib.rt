@@ -4,10 +4,10 @@
 
 #[cfg(test)]
 mod tests {
+    use explain::Source;
     use folder::files::read_folder;
     use folder::print::print_folder;
     use folder::stream::Fallible;
-    use explain::Source;
     use folder::text::{Text, Texts};
     use folder::texts::read_sheets;
     use std::alloc::Global;

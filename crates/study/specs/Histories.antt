@@ -85,7 +85,7 @@ module _ (meaning : Meaning) where
     -- while a search is running, a step on the lists at hand is not refused
     pub ready : (room : Room) → Runs room m → AsLeft room m
 
-  -- The law: the promise holds after each call of every history.
+  -- The law: the promise holds after each call of every history. The clauses that state it are of a test, whose laws come from its contract.
   abbrev pub Law : Type 0
   Law = (m : Moment) (c : Since) → History m c → Promise m c
 

@@ -4,8 +4,8 @@ use Rattle.folder.proofs.print.explain_sheets.Goals as goal
 
 pub returns : goal.returns
 returns g c = IfOk-weaker c.explain_texts.result _ _ (λ status both. record {
-  texts = c.in_ok-texts.texts;
-  are = c.in_ok-texts.ensures.texts;
+  texts = c.in_ok-read_sheets.field-0;
+  are = c.in_ok-read_sheets.ensures.texts;
   prints = both.0;
   explains = both.1;
 }) (and_on_ok c.explain_texts.result _ _ c.explain_texts.ensures.prints c.explain_texts.ensures.explains)
