@@ -27,7 +27,7 @@ abbrev pub cause_words : Cause → List ℕ
 cause_words Missing = codes "is missing"
 cause_words Forbidden = codes "may not be read"
 cause_words NotRegular = codes "is no regular file"
-cause_words Failed = codes "could not be read to its end"
+cause_words Failed = codes "could not be read"
 cause_words Empty = codes "is empty"
 cause_words TooLong = codes "has more than 4096 bytes"
 cause_words Unended = codes "has no line feed at its end"

@@ -15,7 +15,7 @@ pub enum Source {
     Forbidden,
     /// It is no regular file: a folder, a device or a pipe.
     NotRegular,
-    /// Reading it failed on the way.
+    /// Opening or reading it failed for another reason.
     Failed,
 }
 
@@ -35,7 +35,7 @@ pub enum Cause {
     Forbidden,
     /// It is no regular file.
     NotRegular,
-    /// Reading it failed on the way.
+    /// Opening or reading it failed for another reason.
     Failed,
     /// The text has no byte.
     Empty,
@@ -86,7 +86,7 @@ pub fn cause_words(cause: Cause) -> &'static str
         Cause::Missing => "is missing",
         Cause::Forbidden => "may not be read",
         Cause::NotRegular => "is no regular file",
-        Cause::Failed => "could not be read to its end",
+        Cause::Failed => "could not be read",
         Cause::Empty => "is empty",
         Cause::TooLong => "has more than 4096 bytes",
         Cause::Unended => "has no line feed at its end",

@@ -7,9 +7,9 @@ use crate::cause::{Given, cause_of};
 use crate::file::form_at;
 use crate::lines::{cause_line, fault_line, hint_line, miss_line, verdict_line};
 use marking::report::{Outcome, Report};
-use sheets::form::Form;
+use sheets::Form;
 use std::alloc::{AllocError, Global};
-use table::fault::Fault;
+use table::Fault;
 
 // Adds a line.
 fn push_line(out: &mut Vec<u8>, line: &[u8]) -> Result<(), AllocError>

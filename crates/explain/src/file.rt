@@ -2,7 +2,7 @@
 ghost use Rattle.std.specs.Prelude.{◌≡◌};
 ghost use Rattle.explain.specs.Files.{file_name, form_at};
 
-use sheets::form::Form;
+use sheets::Form;
 
 /// The name of the file that has a sheet of the form.
 pub fn file_name(form: Form) -> &'static str

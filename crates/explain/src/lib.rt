@@ -7,3 +7,6 @@ pub mod failure;
 pub mod file;
 mod lines;
 pub mod print;
+
+pub use arguments::Request;
+pub use cause::{Cause, Given, Source};

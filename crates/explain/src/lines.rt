@@ -7,9 +7,9 @@ ghost use Rattle.explain.specs.Explained.{hint_line, verdict_line, miss_words, m
 use crate::cause::{Cause, cause_words};
 use crate::file::{file_name, form_at};
 use marking::report::Verdict;
-use sheets::form::Form;
+use sheets::Form;
 use std::alloc::{AllocError, Global};
-use table::fault::{Fault, Place};
+use table::{Fault, Place};
 
 // Words and a number behind them; nothing where it is 0.
 fn numbered(alloc: Global, words: &str, number: u32) -> Result<String, AllocError>

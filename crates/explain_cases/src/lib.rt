@@ -16,7 +16,7 @@ mod tests {
     use std::process::{Abort, ExitCode};
     use std::test::Fail;
     use std::{io, str};
-    use table::fault::Fault;
+    use table::Fault;
 
     const BOARD: &str = "processors overhead test\n2 0 rta\n";
 
@@ -95,7 +95,7 @@ mod tests {
             &rt,
             [board, failed, missing],
             "tasks.txt",
-            "could not be read to its end",
+            "could not be read",
         )?;
         says_cause(&rt, [board, read(""), answer], "tasks.txt", "is empty")?;
         let unended = read("task estimate\na 2\nb 3\nc 5");

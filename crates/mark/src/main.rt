@@ -3,46 +3,19 @@
 // memory is lacking, and 2 after arguments that are not known.
 #![tactic(auto)]
 
-use explain::arguments::{Request, USAGE, asked};
-use explain::cause::{Given, Source};
+use explain::Request;
+use explain::arguments::{USAGE, asked};
 use explain::failure::print_failure;
-use explain::file::file_name;
-use explain::print::print_explained;
-use folder::print::print_folder;
-use folder::read::read_sheet;
-use sheets::form::Form;
+use folder::print::{explain_folder, print_folder};
 use std::io;
 use std::io::Write;
 use std::process::ExitCode;
-
-// A text of which no more is known.
-fn given(text: &[u8]) -> Given<'_> {
-    Given {
-        text,
-        source: Source::File,
-    }
-}
-
-// Prints what there is to say of the sheets, and what it means.
-fn explain_sheets(rt: &HostRuntime) -> io::Result<ExitCode> {
-    let board = read_sheet(rt, file_name(Form::Board))?;
-    let tasks = read_sheet(rt, file_name(Form::Tasks))?;
-    let answer = read_sheet(rt, file_name(Form::Answer))?;
-    print_explained(
-        rt.alloc(),
-        given(&board),
-        given(&tasks),
-        given(&answer),
-        &mut rt.stdout(),
-        &mut rt.stderr(),
-    )
-}
 
 // Does what the arguments ask.
 fn run(rt: &HostRuntime) -> io::Result<ExitCode> {
     match asked(rt)? {
         Request::Plain => print_folder(rt, ".", &mut rt.stdout()),
-        Request::Explain => explain_sheets(rt),
+        Request::Explain => explain_folder(rt, ".", &mut rt.stdout(), &mut rt.stderr()),
         Request::Unknown => {
             rt.stderr().write_all(USAGE.as_bytes())?;
             Ok(ExitCode::from(2))

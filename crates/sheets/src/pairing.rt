@@ -61,9 +61,9 @@ fn ask_answered(tasks: &Sheet<'_>, answer: &Sheet<'_>) -> Result<(), Fault>
     Ok(())
 }
 
-/// The rows that the value lines of the answer name, with 0 past the last. Refused where a name stands
-/// on the tasks sheet twice (6), where an answered name is no task or is answered twice (7), and where
-/// a task has no answer (8).
+/// The rows that the value lines of the answer name, with 0 past the last. Refused where a name
+/// stands on the tasks sheet twice (6), where an answered name is no task or is answered twice (7),
+/// and where a task has no answer (8).
 pub fn pair(tasks: &Sheet<'_>, answer: &Sheet<'_>) -> Result<[usize; MOST_LINES], Fault>
     ensures pair { Pairs tasks.now answer.now result }
     // So they are an order of the rows.

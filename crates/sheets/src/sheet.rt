@@ -60,7 +60,7 @@ impl<'a> Sheet<'a> {
     ghost use Rattle.sheets.specs.Sheets.{field_place, line_place, IsFull, ReadsText};
     ghost use Rattle.sheets.specs.Pairs.{task_of, name_place, EachLine};
 
-    /// Reads a text as a sheet of the form, with any number: the places of its fields, and in faults,
+    /// Reads a text as a sheet of the form, with any number: the places of its fields and in faults
     /// are on the sheet of this number. Refused where the text is no such sheet (1 to 5).
     #[tactic(auto, using(crate::proofs::Cuts::one_text, crate::proofs::Outcomes::one_first))]
     pub fn read(form: Form, number: u32, text: &'a [u8]) -> Result<Sheet<'a>, Fault>
