@@ -1,7 +1,7 @@
 #!/usr/bin/env python3
 """Brings the repository's own definitions and lemmas to snake case, in crates/ and in the pages that name them.
 
-usage: python3 tools/spell_names.py        at the top of the repository, once, right after port.py
+usage: python3 docs/history/spell_names.py    at the top of the repository, once, right after port.py
 
 Types and facts keep their upper camel case. Rust names, strings, inputs and outputs keep their spelling, and so do
 the names that the check makes (goals, steps, fields after a dot)."""

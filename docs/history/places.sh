@@ -1,8 +1,8 @@
 #!/usr/bin/env bash
-# places.sh [DIR]: lists the places of the code that docs/DESIGN-PASS.md counts, point by point.
+# places.sh [DIR]: lists the places of the code that DESIGN-PASS.md counts, point by point.
 # A line is a place to look at, not a fault.
 set -u
-cd "${1:-$(dirname "$0")/..}" || exit 2
+cd "${1:-$(dirname "$0")/../..}" || exit 2
 S=$(find crates/*/src -name '*.rt' | sort)
 show() { # a title, a pattern
   printf '\n%s\n' "$1"
