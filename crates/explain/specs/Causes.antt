@@ -1,4 +1,4 @@
--- Why the text of a sheet misses the first question.
+-- Why question 1 fails of the text of a sheet.
 use Rattle.std.specs.Prelude.{ℕ, List, Option, None, Some, length, nat_lt, ◌==◌, if◌then◌else◌, codes}
 use Rattle.table.specs.Places.{nth}
 use Rattle.explain.specs.declared.cause.Source.{Source}
@@ -14,7 +14,7 @@ cause_in text =
     else if nth text (length text) 0 == 10 then None
     else Some Unended
 
--- why a text misses the first question: how it was come by, where it was not read from its file, and otherwise what is wrong with it
+-- why question 1 fails of a text: how it was come by, where it was not read from its file, and otherwise what is wrong with it
 abbrev pub cause_of : Source → List ℕ → Option Cause
 cause_of source.File text = cause_in text
 cause_of source.Missing text = Some Missing

@@ -1,4 +1,4 @@
-// Why the text of a sheet misses the first question.
+// Why question 1 fails of the text of a sheet.
 ghost use Rattle.std.specs.Prelude.{◌≡◌, ◌↔◌, IsNone};
 ghost use Rattle.sheets.specs.Reading.{IsSized};
 ghost use Rattle.explain.specs.declared.cause.Source.TheVariants.{File};
@@ -26,7 +26,7 @@ pub struct Given<'a> {
     pub source: Source,
 }
 
-/// Why a text misses the first question.
+/// Why question 1 fails of a text.
 #[derive(Clone, Copy, PartialEq, Eq, Debug)]
 pub enum Cause {
     /// There is no file.
@@ -48,9 +48,9 @@ pub enum Cause {
 // The most bytes that the text of a sheet may have.
 const LONGEST: usize = 4096;
 
-/// Why a text misses the first question: how it was come by, where it was not read from its file,
-/// and otherwise what is wrong with it. Where it was read, there is no cause exactly where it does
-/// not miss the question.
+/// Why question 1 fails of a text: how it was come by, where it was not read from its file,
+/// and otherwise what is wrong with it. Where it was read, there is no cause exactly where the
+/// question holds.
 pub fn cause_of(given: Given<'_>) -> Option<Cause>
     ensures cause { result ≡ cause_of given.entry.source given.entry.text.now }
     ensures sized { given.entry.source ≡ File

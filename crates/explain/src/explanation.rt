@@ -44,7 +44,7 @@ fn given_of<'a>(form: Form, board: Given<'a>, tasks: Given<'a>, answer: Given<'a
     }
 }
 
-// Adds why a text misses the first question, if that is the fault.
+// Adds why question 1 fails of a text, if that is the fault.
 fn push_cause(
     alloc: Global,
     out: &mut Vec<u8>,

@@ -1,6 +1,6 @@
 // The files that a folder of sheets has.
 ghost use Rattle.std.specs.Prelude.{◌≡◌};
-ghost use Rattle.explain.specs.Files.{file_name, form_at};
+ghost use Rattle.explain.specs.Files.{file_name, form_at, FormsNumbered};
 
 use sheets::Form;
 
@@ -17,7 +17,8 @@ pub fn file_name(form: Form) -> &'static str
 
 /// The form of the sheet of a number, if there is one: that of `Place::sheet`.
 pub fn form_at(sheet: u32) -> Option<Form>
-    ensures { result ≡ form_at sheet }
+    ensures form { result ≡ form_at sheet }
+    ensures numbers { FormsNumbered }
 {
     match sheet {
         1 => Some(Form::Board),

@@ -18,7 +18,7 @@ use Rattle.sheets.specs.Pairs.{count_of, task_of, IsNewName, HasTaskAt, HasTask,
 use Rattle.sheets.proofs.Columns.{same_columns}
 use Rattle.sheets.proofs.Cuts.{one_text}
 use Rattle.bounds.specs.Named.{IsTestName}
-use Rattle.marking.specs.Questions.{number_under, Suits, HasTest, TestMisses, HasRow, RowMisses, HasEstimate, EstimateMisses, IsPaired, SheetsMiss, by_test, by_pair, by_row, by_estimate}
+use Rattle.marking.specs.Questions.{number_under, Suits, HasTest, TestFails, HasRow, RowFails, HasEstimate, EstimateFails, IsPaired, SheetsFail, by_test, by_pair, by_row, by_estimate}
 
 -- Two sheets have one number, the same columns and the same values.
 pub record Alike (s t : Sheet) : Type 0 where
@@ -89,7 +89,7 @@ has_task s t u v on of k has = (has.0, subst (λ name. HasTaskAt t name has.0) (
 has_test : (s t : Sheet) → Alike s t → HasTest s → HasTest t
 has_test s t like has c = suits s t like c (has c)
 
-test_misses : (s t : Sheet) → Alike s t → (f : Fault) → TestMisses s f → TestMisses t f
+test_misses : (s t : Sheet) → Alike s t → (f : Fault) → TestFails s f → TestFails t f
 test_misses s t like f m = (
   m.0,
   m.1 ∙ ap BadTest (under s t like 2 m.0),
@@ -153,14 +153,14 @@ module _ (s t : Sheet) (tasks : Alike s t) (u v : Sheet) (answer : Alike u v) wh
   )
   pair_misses f m = absurd m
 
-  row_misses : (f : Fault) → RowMisses s f → RowMisses t f
+  row_misses : (f : Fault) → RowFails s f → RowFails t f
   row_misses f m = (
     m.0,
     m.1 ∙ ap BadRow (at s t tasks (m.0 + 1) 0),
     first_again (HasRow s) (HasRow t) (has_row s t tasks) (count_of s) (count_of t) (count s t tasks) (has_row t s tasks_again) m.0 m.2,
   )
 
-  estimate_misses : (f : Fault) → EstimateMisses s u f → EstimateMisses t v f
+  estimate_misses : (f : Fault) → EstimateFails s u f → EstimateFails t v f
   estimate_misses f m = (
     m.0,
     m.1 ∙ ap BadOrder (under u v answer (m.0 + 1) Estimate),
@@ -168,7 +168,7 @@ module _ (s t : Sheet) (tasks : Alike s t) (u v : Sheet) (answer : Alike u v) wh
   )
 
 -- three sheets, each read twice, have the same faults
-pub sheets_miss : (b c : Sheet) → Alike b c → (s t : Sheet) → Alike s t → (u v : Sheet) → Alike u v → (f : Fault) → SheetsMiss b s u f → SheetsMiss c t v f
+pub sheets_miss : (b c : Sheet) → Alike b c → (s t : Sheet) → Alike s t → (u v : Sheet) → Alike u v → (f : Fault) → SheetsFail b s u f → SheetsFail c t v f
 sheets_miss b c board s t tasks u v answer f (by_test m) = by_test (test_misses b c board f m)
 sheets_miss b c board s t tasks u v answer f (by_pair has m) = by_pair (has_test b c board has) (pair_misses s t tasks u v answer f m)
 sheets_miss b c board s t tasks u v answer f (by_row has paired m) = by_row (has_test b c board has) (is_paired s t tasks u v answer paired) (row_misses s t tasks u v answer f m)

@@ -8,10 +8,10 @@ use Rattle.sheets.specs.Forms.{place}
 use Rattle.sheets.specs.Sheets.{left_of}
 use Rattle.sheets.specs.Pairs.{count_of, name_place, IsNewName, Answers, IsAnswered, EachLine, FirstLine, PairFails}
 use Rattle.sheets.proofs.Outcomes.{level}
-use Rattle.marking.specs.Questions.{HasTest, TestMisses, HasRow, RowMisses, HasEstimate, EstimateMisses, IsPaired, SheetsMiss, by_test, by_pair, by_row, by_estimate}
+use Rattle.marking.specs.Questions.{HasTest, TestFails, HasRow, RowFails, HasEstimate, EstimateFails, IsPaired, SheetsFail, by_test, by_pair, by_row, by_estimate}
 
 module _ (question : ℕ → Type 0) (n : ℕ) where
-  -- one line is the first to miss a question
+  -- one line is the first of which a question fails
   one_line : (k l : ℕ) → FirstLine question n k → FirstLine question n l → k ≡ l
   one_line k l a b = level k l (λ low. a.2 (b.3 k a.0 low)) (λ low. b.2 (a.3 l b.0 low))
 
@@ -20,10 +20,10 @@ module _ (question : ℕ → Type 0) (n : ℕ) where
   none_first k each first = first.2 (each k first.0 first.1)
 
 module _ (board tasks answer : Sheet) where
-  no_test_fault : (f : Fault) → HasTest board → TestMisses board f → ⊥
+  no_test_fault : (f : Fault) → HasTest board → TestFails board f → ⊥
   no_test_fault f has m = m.2 (has m.0)
 
-  one_test_fault : (f g : Fault) → TestMisses board f → TestMisses board g → f ≡ g
+  one_test_fault : (f g : Fault) → TestFails board f → TestFails board g → f ≡ g
   one_test_fault f g a b =
       let same = level (left_of board a.0) (left_of board b.0) (λ low. a.2 (b.3 a.0 low)) (λ low. b.2 (a.3 b.0 low)) in
       a.1 ∙ ap (λ (n : ℕ). BadTest (place board.number 2 (n + 1))) same ∙ sym b.1
@@ -55,24 +55,24 @@ module _ (board tasks answer : Sheet) where
     go h b = absurd b
   one_pair_fault f g a b = absurd a
 
-  no_row_fault : (f : Fault) → EachLine (HasRow tasks) (count_of tasks) → RowMisses tasks f → ⊥
+  no_row_fault : (f : Fault) → EachLine (HasRow tasks) (count_of tasks) → RowFails tasks f → ⊥
   no_row_fault f each m = none_first (HasRow tasks) (count_of tasks) m.0 each m.2
 
-  one_row_fault : (f g : Fault) → RowMisses tasks f → RowMisses tasks g → f ≡ g
+  one_row_fault : (f g : Fault) → RowFails tasks f → RowFails tasks g → f ≡ g
   one_row_fault f g a b = a.1 ∙ ap (λ (k : ℕ). BadRow (place tasks.number (k + 1) 0)) (one_line (HasRow tasks) (count_of tasks) a.0 b.0 a.2 b.2) ∙ sym b.1
 
-  one_estimate_fault : (f g : Fault) → EstimateMisses tasks answer f → EstimateMisses tasks answer g → f ≡ g
+  one_estimate_fault : (f g : Fault) → EstimateFails tasks answer f → EstimateFails tasks answer g → f ≡ g
   one_estimate_fault f g a b =
       a.1 ∙ ap (λ (k : ℕ). BadOrder (place answer.number (k + 1) (left_of answer Estimate + 1))) (one_line (HasEstimate tasks answer) (count_of answer) a.0 b.0 a.2 b.2) ∙ sym b.1
 
   -- sheets that miss no question have no fault
-  pub no_sheets_fault : (f : Fault) → HasTest board → IsPaired tasks answer → EachLine (HasRow tasks) (count_of tasks) → EachLine (HasEstimate tasks answer) (count_of answer) → SheetsMiss board tasks answer f → ⊥
+  pub no_sheets_fault : (f : Fault) → HasTest board → IsPaired tasks answer → EachLine (HasRow tasks) (count_of tasks) → EachLine (HasEstimate tasks answer) (count_of answer) → SheetsFail board tasks answer f → ⊥
   no_sheets_fault f has paired rows lie (by_test m) = no_test_fault f has m
   no_sheets_fault f has paired rows lie (by_pair h m) = no_pair_fault f paired m
   no_sheets_fault f has paired rows lie (by_row h p m) = no_row_fault f rows m
   no_sheets_fault f has paired rows lie (by_estimate h p r m) = none_first (HasEstimate tasks answer) (count_of answer) m.0 lie m.2
 
-  pub one_sheets_fault : (f g : Fault) → SheetsMiss board tasks answer f → SheetsMiss board tasks answer g → f ≡ g
+  pub one_sheets_fault : (f g : Fault) → SheetsFail board tasks answer f → SheetsFail board tasks answer g → f ≡ g
   one_sheets_fault f g (by_test a) (by_test b) = one_test_fault f g a b
   one_sheets_fault f g (by_test a) (by_pair h b) = absurd (no_test_fault f h a)
   one_sheets_fault f g (by_test a) (by_row h p b) = absurd (no_test_fault f h a)

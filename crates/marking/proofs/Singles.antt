@@ -10,7 +10,7 @@ use Rattle.sheets.proofs.Readings.{sheet_is_read}
 use Rattle.sheets.specs.declared.sheet.Sheet.{Sheet}
 use Rattle.marking.specs.declared.report.Report.{Report}
 use Rattle.marking.specs.Reports.{Read, Marked, Refused}
-use Rattle.marking.specs.Questions.{IsForm, sheet_of, TextsMiss, in_board, in_tasks, in_answer, SheetsMiss}
+use Rattle.marking.specs.Questions.{IsForm, sheet_of, TextsFail, in_board, in_tasks, in_answer, SheetsFail}
 use Rattle.marking.proofs.Alike.{read_alike, sheets_miss}
 use Rattle.marking.proofs.Faults.{no_sheets_fault, one_sheets_fault}
 
@@ -19,7 +19,7 @@ no_fault : (form : Form) (number : ℕ) (text : List ℕ) (fault : Fault) → Is
 no_fault form number text fault is first = false≢true (sheet_is_read form number text (Err fault) first is.0 is.1 is.2)
 
 -- three texts that are not all sheets have one first fault
-one_fault : (x y z : List ℕ) (f g : Fault) → TextsMiss x y z f → TextsMiss x y z g → f ≡ g
+one_fault : (x y z : List ℕ) (f g : Fault) → TextsFail x y z f → TextsFail x y z g → f ≡ g
 one_fault x y z f g (in_board a) (in_board b) = one_first Board (sheet_of Board) x f g a b
 one_fault x y z f g (in_board a) (in_tasks p b) = absurd (no_fault Board (sheet_of Board) x f p a)
 one_fault x y z f g (in_board a) (in_answer p q b) = absurd (no_fault Board (sheet_of Board) x f p a)
@@ -31,13 +31,13 @@ one_fault x y z f g (in_answer p q a) (in_tasks r b) = absurd (no_fault Tasks (s
 one_fault x y z f g (in_answer p q a) (in_answer r t b) = one_first Answer (sheet_of Answer) z f g a b
 
 -- and such texts are read as no sheets
-not_read : (x y z : List ℕ) (f : Fault) → TextsMiss x y z f → (board tasks answer : Sheet) → Read x y z board tasks answer → ⊥
+not_read : (x y z : List ℕ) (f : Fault) → TextsFail x y z f → (board tasks answer : Sheet) → Read x y z board tasks answer → ⊥
 not_read x y z f (in_board a) board tasks answer read = no_fault Board (sheet_of Board) x f (read.0.0, read.0.1, read.0.2) a
 not_read x y z f (in_tasks p a) board tasks answer read = no_fault Tasks (sheet_of Tasks) y f (read.1.0, read.1.1, read.1.2) a
 not_read x y z f (in_answer p q a) board tasks answer read = no_fault Answer (sheet_of Answer) z f (read.2.0, read.2.1, read.2.2) a
 
 -- the sheets of one reading have the faults of another's
-sheets_again : (x y z : List ℕ) (b t a c u d : Sheet) → Read x y z b t a → Read x y z c u d → (f : Fault) → SheetsMiss c u d f → SheetsMiss b t a f
+sheets_again : (x y z : List ℕ) (b t a c u d : Sheet) → Read x y z b t a → Read x y z c u d → (f : Fault) → SheetsFail c u d f → SheetsFail b t a f
 sheets_again x y z b t a c u d one other f m =
     sheets_miss c b (read_alike Board (sheet_of Board) x c b other.0 one.0) u t (read_alike Tasks (sheet_of Tasks) y u t other.1 one.1) d a (read_alike Answer (sheet_of Answer) z d a other.2 one.2) f m
 

@@ -12,7 +12,7 @@ use Rattle.sheets.specs.declared.form.Column.{Column}
 use Rattle.sheets.specs.declared.form.Column.TheVariants.{Processors, Overhead as V, Test, Task, Wcet, Period, Deadline, Estimate}
 use Rattle.sheets.specs.declared.sheet.Sheet.{Sheet}
 use Rattle.sheets.specs.Sheets.{field_of}
-use Rattle.marking.specs.Questions.{number_under, Suits, HasTest, TestMisses, IsTest}
+use Rattle.marking.specs.Questions.{number_under, Suits, HasTest, TestFails, IsTest}
 
 -- only two columns are asked
 pub all_suit : (b : Sheet) (P : Column → Type 0) → (P Processors → Suits b Processors) → (P Test → Suits b Test) → (d : Column) → P d → Suits b d
@@ -45,9 +45,9 @@ named_made name p t made known =
     subst (IsNamed name p.count) (ap (given t) (sym is.1)) is.2
 
 pub test_made : (b : Sheet) (name : List ℕ) (m v : ℕ) (t : NamedTest) (r : Result (Overhead NamedTest) Fault) → name ≡ field_of b 1 Test → m ≡ number_under b 1 Processors → v ≡ number_under b 1 V → v ≤ 1000000
-    → HasTest b → IsNamed name m t → MadeOverhead v t r → MatchResult r (λ test. HasTest b × IsTest b test) (TestMisses b)
+    → HasTest b → IsNamed name m t → MadeOverhead v t r → MatchResult r (λ test. HasTest b × IsTest b test) (TestFails b)
 test_made b name m v t r n e w small has named made =
     let o = made.1 small in
     let below : IsNamed name m o.0.below = subst (IsNamed name m) (sym o.3) named in
-    subst (λ x. MatchResult x (λ test. HasTest b × IsTest b test) (TestMisses b)) (sym o.1)
+    subst (λ x. MatchResult x (λ test. HasTest b × IsTest b test) (TestFails b)) (sym o.1)
     (has, (o.2 ∙ w, subst (λ y. IsNamed y (number_under b 1 Processors) o.0.below) n (subst (λ y. IsNamed name y o.0.below) e below)))

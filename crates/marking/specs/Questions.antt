@@ -37,9 +37,9 @@ Suits board column = Unit {0}
 abbrev pub HasTest : Sheet → Type 0
 HasTest board = (c : Column) → Suits board c
 
--- the fault is that of the leftmost field of the board that misses the question
-abbrev pub TestMisses : Sheet → Fault → Type 0
-TestMisses board fault =
+-- the fault is that of the leftmost field of the board of which the question fails
+abbrev pub TestFails : Sheet → Fault → Type 0
+TestFails board fault =
     (c : Column) × (fault ≡ BadTest (place board.number 2 (left_of board c + 1))) × (Suits board c → ⊥) × ((d : Column) → left_of board d < left_of board c → Suits board d)
 
 -- the test is the board's: the one of its name, on its processors, under an overhead of its V
@@ -59,8 +59,8 @@ abbrev pub HasRow : Sheet → ℕ → Type 0
 HasRow tasks k = IsRow (numbers_at tasks k)
 
 -- the fault is that of the first line that makes no row
-abbrev pub RowMisses : Sheet → Fault → Type 0
-RowMisses tasks fault = (k : ℕ) × (fault ≡ BadRow (place tasks.number (k + 1) 0)) × FirstLine (HasRow tasks) (count_of tasks) k
+abbrev pub RowFails : Sheet → Fault → Type 0
+RowFails tasks fault = (k : ℕ) × (fault ≡ BadRow (place tasks.number (k + 1) 0)) × FirstLine (HasRow tasks) (count_of tasks) k
 
 -- question 17: the estimate in the k-th value line of the answer lies from the C to the D of the task that the line names
 abbrev pub HasEstimate : Sheet → Sheet → ℕ → Type 0
@@ -68,8 +68,8 @@ HasEstimate tasks answer k =
     (row : ℕ) → HasTaskAt tasks (task_of answer k) row → (number_under tasks row Wcet ≤ number_under answer k Estimate) × (number_under answer k Estimate ≤ number_under tasks row Deadline)
 
 -- the fault is that of the first line whose estimate does not
-abbrev pub EstimateMisses : Sheet → Sheet → Fault → Type 0
-EstimateMisses tasks answer fault =
+abbrev pub EstimateFails : Sheet → Sheet → Fault → Type 0
+EstimateFails tasks answer fault =
     (k : ℕ) × (fault ≡ BadOrder (place answer.number (k + 1) (left_of answer Estimate + 1))) × FirstLine (HasEstimate tasks answer) (count_of answer) k
 
 -- a text is a sheet of a form
@@ -83,18 +83,18 @@ sheet_of Tasks = 2
 sheet_of Answer = 3
 
 -- The fault is the first of three texts, where one of them is no sheet: those of the board come first, then those of the tasks.
-pub data TextsMiss (board tasks answer : List ℕ) (fault : Fault) : Type 0 where
-  in_board : IsFirst Board (sheet_of Board) board fault → TextsMiss board tasks answer fault
-  in_tasks : IsForm Board board → IsFirst Tasks (sheet_of Tasks) tasks fault → TextsMiss board tasks answer fault
-  in_answer : IsForm Board board → IsForm Tasks tasks → IsFirst Answer (sheet_of Answer) answer fault → TextsMiss board tasks answer fault
+pub data TextsFail (board tasks answer : List ℕ) (fault : Fault) : Type 0 where
+  in_board : IsFirst Board (sheet_of Board) board fault → TextsFail board tasks answer fault
+  in_tasks : IsForm Board board → IsFirst Tasks (sheet_of Tasks) tasks fault → TextsFail board tasks answer fault
+  in_answer : IsForm Board board → IsForm Tasks tasks → IsFirst Answer (sheet_of Answer) answer fault → TextsFail board tasks answer fault
 
--- no question of a pair is missed
+-- every question of a pair holds
 abbrev pub IsPaired : Sheet → Sheet → Type 0
 IsPaired tasks answer = EachLine (IsNewName tasks) (count_of tasks) × EachLine (Answers tasks answer) (count_of answer) × EachLine (IsAnswered tasks answer) (count_of tasks)
 
 -- The fault is the first of three sheets: the board's test is asked first, then the pair, the rows and the estimates.
-pub data SheetsMiss (board tasks answer : Sheet) (fault : Fault) : Type 0 where
-  by_test : TestMisses board fault → SheetsMiss board tasks answer fault
-  by_pair : HasTest board → PairFails tasks answer fault → SheetsMiss board tasks answer fault
-  by_row : HasTest board → IsPaired tasks answer → RowMisses tasks fault → SheetsMiss board tasks answer fault
-  by_estimate : HasTest board → IsPaired tasks answer → EachLine (HasRow tasks) (count_of tasks) → EstimateMisses tasks answer fault → SheetsMiss board tasks answer fault
+pub data SheetsFail (board tasks answer : Sheet) (fault : Fault) : Type 0 where
+  by_test : TestFails board fault → SheetsFail board tasks answer fault
+  by_pair : HasTest board → PairFails tasks answer fault → SheetsFail board tasks answer fault
+  by_row : HasTest board → IsPaired tasks answer → RowFails tasks fault → SheetsFail board tasks answer fault
+  by_estimate : HasTest board → IsPaired tasks answer → EachLine (HasRow tasks) (count_of tasks) → EstimateFails tasks answer fault → SheetsFail board tasks answer fault

@@ -33,7 +33,7 @@ use Rattle.marking.specs.declared.report.Verdict.TheVariants as verdict
 use Rattle.marking.specs.declared.report.Outcome.{Outcome}
 use Rattle.marking.specs.declared.report.Outcome.TheVariants as outcome
 use Rattle.marking.specs.declared.case.Case.{Case}
-use Rattle.marking.specs.Questions.{number_under, numbers_at, HasTest, IsTest, IsPaired, HasRow, HasEstimate, sheet_of, TextsMiss, SheetsMiss}
+use Rattle.marking.specs.Questions.{number_under, numbers_at, HasTest, IsTest, IsPaired, HasRow, HasEstimate, sheet_of, TextsFail, SheetsFail}
 
 -- what a board's test answers: what the test of its name answers, and V added
 abbrev pub board_answer : Overhead NamedTest → Meaning
@@ -176,7 +176,7 @@ pub record Reports (t : Overhead NamedTest) (tasks answer : Sheet) (r : Report) 
 abbrev pub Read : List ℕ → List ℕ → List ℕ → Sheet → Sheet → Sheet → Type 0
 Read x y z board tasks answer = ReadsText Board (sheet_of Board) x (Ok board) × ReadsText Tasks (sheet_of Tasks) y (Ok tasks) × ReadsText Answer (sheet_of Answer) z (Ok answer)
 
--- Three texts have a report: each is a sheet, no question is missed, and the report is that on the sheets under the board's test.
+-- Three texts have a report: each is a sheet, every question holds, and the report is that on the sheets under the board's test.
 pub record Marked (x y z : List ℕ) (r : Report) : Type 0 where
   pub board : Sheet
   pub tasks : Sheet
@@ -192,7 +192,7 @@ pub record Marked (x y z : List ℕ) (r : Report) : Type 0 where
 
 -- three texts have a fault: the first of the texts, or the first of the sheets that they are
 abbrev pub Refused : List ℕ → List ℕ → List ℕ → Fault → Type 0
-Refused x y z fault = TextsMiss x y z fault ⊎ ((board tasks answer : Sheet) × Read x y z board tasks answer × SheetsMiss board tasks answer fault)
+Refused x y z fault = TextsFail x y z fault ⊎ ((board tasks answer : Sheet) × Read x y z board tasks answer × SheetsFail board tasks answer fault)
 
 -- marking three texts: a report, or the first fault
 abbrev pub Marks : List ℕ → List ℕ → List ℕ → Result Report Fault → Type 0

@@ -6,7 +6,7 @@ ghost use Rattle.sheets.specs.declared.form.Form.TheVariants.{Board};
 ghost use Rattle.sheets.specs.declared.form.Column.TheVariants.{Processors as M};
 ghost use Rattle.sheets.specs.Sheets.{HasField, IsFull};
 ghost use Rattle.sheets.specs.Pairs.{count_of};
-ghost use Rattle.marking.specs.Questions.{number_under, HasNumber, HasTest, TestMisses, IsTest};
+ghost use Rattle.marking.specs.Questions.{number_under, HasNumber, HasTest, TestFails, IsTest};
 
 use crate::fields::{field, number};
 use bounds::{NamedTest, Overhead, Processors};
@@ -17,7 +17,7 @@ use table::{Fault, Place};
 fn misfit(board: &Sheet<'_>, allowed: bool) -> Option<Place>
     requires sheet { (board.now.form ≡ Board) × (count_of board.now ≡ 1) × IsFull board.now }
     requires allowed { IsTrue allowed ↔ Allowed (number_under board.now 1 M) }
-    ensures { MatchOption result (HasTest board.now) (λ place. TestMisses board.now (Bad place)) }
+    ensures { MatchOption result (HasTest board.now) (λ place. TestFails board.now (Bad place)) }
 {
     let processors = field(board, 1, Column::Processors).place;
     let test = field(board, 1, Column::Test);
@@ -33,7 +33,7 @@ fn misfit(board: &Sheet<'_>, allowed: bool) -> Option<Place>
 /// The board's test, under an overhead of its V.
 pub(crate) fn test_of(board: &Sheet<'_>) -> Result<Overhead<NamedTest>, Fault>
     requires { (board.now.form ≡ Board) × (count_of board.now ≡ 1) × IsFull board.now }
-    ensures { MatchResult result (λ test. HasTest board.now × IsTest board.now test) (λ fault. TestMisses board.now fault) }
+    ensures { MatchResult result (λ test. HasTest board.now × IsTest board.now test) (λ fault. TestFails board.now fault) }
 {
     let processors = Processors::new(number(board, 1, Column::Processors));
     if let Some(place) = misfit(board, processors.is_ok()) {

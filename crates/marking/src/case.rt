@@ -5,7 +5,7 @@ ghost use Rattle.sheets.specs.declared.sheet.Sheet.{Sheet as OneSheet};
 ghost use Rattle.sheets.specs.declared.form.Form.TheVariants.{Board, Tasks, Answer};
 ghost use Rattle.sheets.specs.Pairs.{count_of};
 ghost use Rattle.sheets.specs.Sheets.{IsFull};
-ghost use Rattle.marking.specs.Questions.{SheetsMiss};
+ghost use Rattle.marking.specs.Questions.{SheetsFail};
 ghost use Rattle.marking.specs.declared.report.Outcome.{Outcome as OneOutcome};
 ghost use Rattle.marking.specs.declared.report.Report.{Report as OneReport};
 ghost use Rattle.marking.specs.Reports.{CaseOf, ChecksAnswer, Reports};
@@ -40,7 +40,7 @@ impl Case {
         requires board { (board.now.form ≡ Board) × (count_of board.now ≡ 1) × IsFull board.now }
         requires tasks { (tasks.now.form ≡ Tasks) × IsFull tasks.now }
         requires answer { (answer.now.form ≡ Answer) × IsFull answer.now }
-        ensures { MatchResult result (λ case. CaseOf board.now tasks.now answer.now case) (λ fault. SheetsMiss board.now tasks.now answer.now fault) }
+        ensures { MatchResult result (λ case. CaseOf board.now tasks.now answer.now case) (λ fault. SheetsFail board.now tasks.now answer.now fault) }
     {
         let test = test_of(board)?;
         let order = pair(tasks, answer)?;

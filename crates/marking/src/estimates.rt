@@ -3,7 +3,7 @@ ghost use Rattle.std.specs.Prelude.{◌≡◌, ◌≤◌, ◌↔◌, IsTrue, Ok,
 ghost use Rattle.sheets.specs.declared.form.Form.TheVariants.{Tasks, Answer};
 ghost use Rattle.sheets.specs.Pairs.{count_of, EachLine, EachRowOnce, Pairs};
 ghost use Rattle.sheets.specs.Sheets.{IsFull};
-ghost use Rattle.marking.specs.Questions.{HasEstimate, EstimateMisses};
+ghost use Rattle.marking.specs.Questions.{HasEstimate, EstimateFails};
 ghost use Rattle.marking.specs.Reports.{EstimatesOf};
 
 use crate::fields::{field, number};
@@ -26,7 +26,7 @@ pub(crate) fn estimates_of(
     requires tasks { (tasks.now.form ≡ Tasks) × IsFull tasks.now }
     requires answer { (answer.now.form ≡ Answer) × IsFull answer.now }
     requires order { Pairs tasks.now answer.now (Ok order.now) × EachRowOnce tasks.now answer.now order.now }
-    ensures { MatchResult result (λ estimates. EachLine (HasEstimate tasks.now answer.now) (count_of answer.now) × EstimatesOf answer.now order.now estimates (count_of answer.now) × (length estimates ≡ 32)) (λ fault. EstimateMisses tasks.now answer.now fault) }
+    ensures { MatchResult result (λ estimates. EachLine (HasEstimate tasks.now answer.now) (count_of answer.now) × EstimatesOf answer.now order.now estimates (count_of answer.now) × (length estimates ≡ 32)) (λ fault. EstimateFails tasks.now answer.now fault) }
 {
     let mut estimates = [0; 32];
     for i in 0..answer.len() {

@@ -4,7 +4,7 @@ ghost use Rattle.table.specs.Rows.{view};
 ghost use Rattle.sheets.specs.declared.form.Form.TheVariants.{Tasks};
 ghost use Rattle.sheets.specs.Pairs.{count_of, EachLine};
 ghost use Rattle.sheets.specs.Sheets.{IsFull};
-ghost use Rattle.marking.specs.Questions.{numbers_at as line_numbers, HasRow, RowMisses};
+ghost use Rattle.marking.specs.Questions.{numbers_at as line_numbers, HasRow, RowFails};
 ghost use Rattle.marking.specs.Reports.{RowsOf, HasHistory};
 
 use crate::fields::{field, number};
@@ -37,7 +37,7 @@ pub(crate) fn study_of(tasks: &Sheet<'_>) -> Result<Study, Fault>
     requires { (tasks.now.form ≡ Tasks) × IsFull tasks.now }
     ensures { MatchResult result
         (λ s. EachLine (HasRow tasks.now) (count_of tasks.now) × RowsOf tasks.now (count_of tasks.now) (view s.table) × HasHistory s)
-        (λ fault. RowMisses tasks.now fault) }
+        (λ fault. RowFails tasks.now fault) }
 {
     let mut study = Study::new();
     for i in 0..tasks.len() {

@@ -1,7 +1,7 @@
 // The three sheets.
 ghost use Rattle.std.specs.Prelude.{MatchResult};
 ghost use Rattle.sheets.specs.Sheets.{IsFull};
-ghost use Rattle.marking.specs.Questions.{TextsMiss};
+ghost use Rattle.marking.specs.Questions.{TextsFail};
 ghost use Rattle.marking.specs.Reports.{Read};
 
 use sheets::{Form, Sheet};
@@ -25,7 +25,7 @@ impl<'a> Trio<'a> {
         ensures { MatchResult result
             (λ s. Read board.now tasks.now answer.now s.board s.tasks s.answer
             × (IsFull s.board × IsFull s.tasks × IsFull s.answer))
-            (λ fault. TextsMiss board.now tasks.now answer.now fault) }
+            (λ fault. TextsFail board.now tasks.now answer.now fault) }
     {
         Ok(Trio {
             board: Sheet::read(Form::Board, 1, board)?,
