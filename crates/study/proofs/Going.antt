@@ -9,10 +9,10 @@ use Rattle.study.specs.Counts.{verdicts}
 use Rattle.study.specs.Slots.{HasSlots}
 use Rattle.study.specs.Moments.{Moment, moment, rows_of}
 use Rattle.study.specs.Begins.{HasRoom, Begins}
-use Rattle.study.specs.Steps.{Runs, Stepped, Steps, none, keeps, keep_stops, finds, splits, split_stops}
+use Rattle.study.specs.Steps.{Runs, Stepped, Steps}
 use Rattle.study.specs.Histories.{Since, other, Promise, History, begin, no_begin, step}
 use Rattle.study.specs.Searches.{Leads, begins, steps, Searches, SearchPromise}
-use Rattle.study.proofs.Lawful.{room_of, KeepsAt, Told, begun_keeps, told_begun, stepped_keeps, told_stepped, begin_accepted, step_accepted, counted_running, ok≢err, ready, law}
+use Rattle.study.proofs.Lawful.{room_of, KeepsAt, Told, begun_keeps, told_begun, stepped_keeps, told_stepped, begin_accepted, step_accepted, counted_running, after_step, ok≢err, ready, law}
 
 abbrev since_at : Room → ℕ → Bool → Since
 since_at room n stepped = record { slots = room.ledger; steps = n; stepped = stepped }
@@ -55,16 +55,6 @@ module _ (meaning : Meaning) where
     pub not_refused : (e : Fault) → Steps meaning m (Err e) after → ⊥
     not_refused e asked = let on = asked.1 (room, runs) in ok≢err e (sym (on.2.1 (ready meaning m going.at on.0 on.1)).0)
 
-    after_step : Stepped meaning room m after → (after.study.steps ≡ m.study.steps + 1) × ((Runs room after) ⊎ (verdicts after.study.state ≡ 1))
-    after_step stepped = elim stepped [
-      | none nothing ends ↦ (ends.steps, inr (ap verdicts ends.state))
-      | keeps grown some closed grows left leaves ↦ (leaves.steps, inl leaves.state)
-      | keep_stops some closed lacks ends ↦ (ends.steps, inr (ap verdicts ends.state))
-      | finds f some opens lows found ends ↦ (ends.steps, inr (ap verdicts ends.state))
-      | splits u some opens closed grows left enough leaves ↦ (leaves.steps, inl leaves.state)
-      | split_stops u some opens closed grows lacks ends ↦ (ends.steps, inr (ap verdicts ends.state))
-    ]
-
     did_step : Steps meaning m (Ok tt) after → Stepped meaning room m after
     did_step took =
         let on = step_accepted meaning m after (ready meaning m going.at) took in
@@ -73,20 +63,19 @@ module _ (meaning : Meaning) where
 
     -- a step counts one more, of at most 4,097
     pub step_counts : Steps meaning m (Ok tt) after → (after.study.steps ≡ m.study.steps + 1) × (m.study.steps ≤ 4096)
-    step_counts took = let few = counted_running m.study room runs in ((after_step (did_step took)).0, omega (arith, few.0, few.1, few.2))
+    step_counts took = let few = counted_running m.study room runs in ((did_step took).leaves.steps, omega (arith, few.0, few.1, few.2))
 
     pub going_stepped : Steps meaning m (Ok tt) after → Going room before after
     going_stepped took =
         let did = did_step took in
-        let next = after_step did in
         record {
           count = going.count + 1;
           stepped = true;
           leads = steps going.leads (ap verdicts runs) took;
-          at = stepped_keeps meaning laws room m after going.at runs did;
-          told = told_stepped room m after (since_at room going.count going.stepped) going.told runs meaning did;
-          same = omega (arith, going.same, next.0);
-          alive = elim next.1 [ inl on_it ↦ inl on_it | inr verdict ↦ inr (verdict, refl) ];
+          at = stepped_keeps meaning laws room m going.at runs after did;
+          told = told_stepped room m after (since_at room going.count going.stepped) going.told runs did;
+          same = omega (arith, going.same, did.leaves.steps);
+          alive = elim (after_step did) [ inl on_it ↦ inl on_it | inr verdict ↦ inr (verdict, refl) ];
           past = λ l p c h. step (going.past l p c h) after took;
         }
 

@@ -19,7 +19,10 @@ use Rattle.study.specs.Counts.{verdicts, Counted}
 use Rattle.study.specs.Calls.{IsDraft, EditsBy}
 use Rattle.study.specs.Moments.{Moment, moment, rows_of}
 use Rattle.study.specs.Begins.{HasRoom, Begun, Begins}
-use Rattle.study.specs.Steps.{Runs, AsLeft, Leaves, Stepped, Steps, none, keeps, keep_stops, finds, splits, split_stops}
+use Rattle.study.specs.declared.deed.Deed.{Deed}
+use Rattle.study.specs.declared.deed.Deed.TheVariants.{End, Keep, Split}
+use Rattle.study.specs.Deeds.{CallsFor}
+use Rattle.study.specs.Steps.{Runs, AsLeft, taken_of, Left, left_by, Fits, Leaves, Does, Stepped, Steps, none, does, stops}
 use Rattle.study.specs.Histories.{Since, begun, one_more, other, Means, StepPromise, History, Law, Shown, start, edit, begin, no_begin, step, no_step}
 use Rattle.study.proofs.Sought.{Holding, AllBarred, Sought, sought_kept, sought_split, slot_full}
 use Rattle.study.proofs.Standing.{finding_shows, every_late}
@@ -118,8 +121,8 @@ module _ (meaning : Meaning) where
       (subst (λ x. Keeps rows s n m l x) (sym e) was)))))
 
   -- after a step
-  leaves_keeps : (before after : Moment) (s : State) (n m : ℕ) (l p : List ℕ) → Leaves before s n m l p after → Keeps (rows_of before) s n m l p → KeepsAt after
-  leaves_keeps before after s n m l p leaves = keeps_at after (rows_of before) s n m l p (ap view leaves.table) leaves.state leaves.ledger leaves.pending leaves.ledger_list leaves.pending_list
+  leaves_keeps : (before after : Moment) (left : Left) → Leaves before left after → Keeps (rows_of before) left.state left.ledger_count left.pending_count left.ledger left.pending → KeepsAt after
+  leaves_keeps before after left leaves = keeps_at after (rows_of before) _ _ _ _ _ (ap view leaves.table) leaves.state leaves.ledger_count leaves.pending_count leaves.ledger leaves.pending
 
   draft_keeps : (s : Study) (l p : List ℕ) → IsDraft s → KeepsAt (moment s l p)
   draft_keeps s l p draft = keeps_at (moment s l p) (view s.table) state.Draft 0 0 l p refl draft.state draft.ledger draft.pending refl refl (drafted (view s.table) l p)
@@ -131,27 +134,38 @@ module _ (meaning : Meaning) where
       (running (rows_of before) room 0 1 _ _ (sought_begun (rows_of before) few meaning room before.ledger before.pending has.1.0 has.0.2 has.1.2))
 
   module _ (laws : Laws meaning) where
-    pub stepped_keeps : (room : Room) (before after : Moment) → KeepsAt before → Runs room before → Stepped meaning room before after → KeepsAt after
-    stepped_keeps room before after at runs stepped =
-        let rows = rows_of before in
-        let n = before.study.ledger in
-        let m = before.study.pending in
-        let l = before.ledger in
-        let p = before.pending in
-        let few = few_rows before.study.table in
-        let sought = at.runs room runs in
-        elim stepped [
-          | none nothing ends ↦
-              let cover : (es : List ℕ) → Estimates rows es → Holding rows l n es = λ es est. elim (sought.cover es est) [ inl kept ↦ kept | inr waits ↦ absurd (omega (arith, waits.1, waits.2, nothing)) ] in
-              leaves_keeps before after _ _ _ _ _ ends (ended_none rows n m l p sought.barred cover (every_late laws rows few n l sought.barred cover))
-          | keeps grown some closed grows left leaves ↦ leaves_keeps before after _ _ _ _ _ leaves (running rows room _ _ _ _ (sought_kept laws rows few room n m l p sought some left grown closed grows))
-          | keep_stops some closed lacks ends ↦ leaves_keeps before after _ _ _ _ _ ends (stopped rows n m l p sought.barred)
-          | finds f some opens lows found ends ↦
-              let whole = slot_full p m some (omega (arith, sought.long_pending, sought.few_waiting)) in
-              leaves_keeps before after _ _ _ _ _ ends (ended_found rows f n m l p sought.barred (finding_shows laws rows few _ f whole (sought.waiting m some (omega arith)) found))
-          | splits u some opens closed grows left enough leaves ↦ leaves_keeps before after _ _ _ _ _ leaves (running rows room _ _ _ _ (sought_split laws rows few room n m l p sought some left u closed grows enough))
-          | split_stops u some opens closed grows lacks ends ↦ leaves_keeps before after _ _ _ _ _ ends (stopped rows n m l p sought.barred)
-        ]
+    -- what is kept of a running search is kept of what a step leaves
+    module _ (room : Room) (before : Moment) (at : KeepsAt before) (runs : Runs room before) where
+      abbrev rows : List Row
+      rows = rows_of before
+
+      sought : Sought meaning rows room before.study.ledger before.study.pending before.ledger before.pending
+      sought = at.runs room runs
+
+      abbrev LeftKept : Deed → Type 0
+      LeftKept deed =
+          let left = left_by room before deed in
+          Keeps rows left.state left.ledger_count left.pending_count left.ledger left.pending
+
+      called_kept : (deed : Deed) → 1 ≤ before.study.pending → CallsFor meaning rows (taken_of before) deed → Fits room (left_by room before deed) → LeftKept deed
+      called_kept (End verdict) some calls fits =
+          let found = calls.2 in
+          let whole = slot_full before.pending before.study.pending some (omega (arith, sought.long_pending, sought.few_waiting)) in
+          let shows = finding_shows laws rows (few_rows before.study.table) (taken_of before) found.0 whole (sought.waiting before.study.pending some (omega arith)) found.2 in
+          subst (λ s. Keeps rows s before.study.ledger before.study.pending before.ledger before.pending) (sym found.1)
+          (ended_found rows found.0 _ _ _ _ sought.barred shows)
+      called_kept (Keep grown) some calls fits = running rows room _ _ _ _ (sought_kept laws rows (few_rows before.study.table) room _ _ _ _ sought some (omega (arith, fits.0)) grown calls.0 calls.1)
+      called_kept (Split u) some calls fits = running rows room _ _ _ _ (sought_split laws rows (few_rows before.study.table) room _ _ _ _ sought some (omega (arith, fits.0)) u calls.1 calls.2 fits.1)
+
+      left_kept : (deed : Deed) → Does meaning room before deed → LeftKept deed
+      left_kept deed (none nothing) =
+          let cover : (es : List ℕ) → Estimates rows es → Holding rows before.ledger before.study.ledger es = λ es est. elim (sought.cover es est) [ inl kept ↦ kept | inr waits ↦ absurd (omega (arith, waits.1, waits.2, nothing)) ] in
+          ended_none rows _ _ _ _ sought.barred cover (every_late laws rows (few_rows before.study.table) before.study.ledger before.ledger sought.barred cover)
+      left_kept deed (does d some calls fits) = called_kept d some calls fits
+      left_kept deed (stops d some calls lacks) = stopped rows _ _ _ _ sought.barred
+
+      pub stepped_keeps : (after : Moment) → Stepped meaning room before after → KeepsAt after
+      stepped_keeps after stepped = leaves_keeps before after _ stepped.leaves (left_kept stepped.deed stepped.does)
 
 -- what a running study's counts say
 pub counted_running : (s : Study) (room : Room) → s.state ≡ state.Running room → (s.ledger ≤ room.ledger) × (s.steps ≡ s.ledger) × (room.ledger ≤ 4096)
@@ -186,6 +200,20 @@ told_begun room after slots same is steps = record {
   runs = λ r runs. (same ∙ ap (λ (x : Room). x.ledger) (ap (room_of room) (sym is ∙ runs)), sym steps);
 }
 
+-- a step goes on, or leaves a verdict
+state_left : {meaning : Meaning} {room : Room} {before : Moment} (deed : Deed) → Does meaning room before deed → ((left_by room before deed).state ≡ state.Running room) ⊎ (verdicts (left_by room before deed).state ≡ 1)
+state_left deed (none nothing) = inr refl
+state_left deed (does (End verdict) some calls fits) = inr (ap verdicts calls.2.1)
+state_left deed (does (Keep grown) some calls fits) = inl refl
+state_left deed (does (Split u) some calls fits) = inl refl
+state_left deed (stops d some calls lacks) = inr refl
+
+pub after_step : {meaning : Meaning} {room : Room} {before after : Moment} → Stepped meaning room before after → (Runs room after) ⊎ (verdicts after.study.state ≡ 1)
+after_step stepped = elim (state_left stepped.deed stepped.does) [
+  | inl on ↦ inl (stepped.leaves.state ∙ on)
+  | inr verdict ↦ inr (ap verdicts stepped.leaves.state ∙ verdict)
+]
+
 module _ (room : Room) (before after : Moment) (c : Since) (told : Told before c) (runs : Runs room before) where
   step_bounded : c.steps + 1 ≤ c.slots + 1
   step_bounded = let was = told.runs room runs in let few = counted_running before.study room runs in omega (arith, was.0, was.1, few.0, few.1)
@@ -209,14 +237,10 @@ module _ (room : Room) (before after : Moment) (c : Since) (told : Told before c
         runs = λ r runs'. (was.0 ∙ ap (λ (x : Room). x.ledger) (ap (room_of room) (sym is ∙ runs')), omega (arith, was.1, steps));
       }
 
-  pub told_stepped : (meaning : Meaning) → Stepped meaning room before after → Told after (one_more c)
-  told_stepped meaning stepped = elim stepped [
-    | none nothing ends ↦ told_ended state.None ends.state refl
-    | keeps grown some closed grows left leaves ↦ told_running leaves.state leaves.steps
-    | keep_stops some closed lacks ends ↦ told_ended state.Stopped ends.state refl
-    | finds f some opens lows found ends ↦ told_ended (state.Found f) ends.state refl
-    | splits u some opens closed grows left enough leaves ↦ told_running leaves.state leaves.steps
-    | split_stops u some opens closed grows lacks ends ↦ told_ended state.Stopped ends.state refl
+  pub told_stepped : {meaning : Meaning} → Stepped meaning room before after → Told after (one_more c)
+  told_stepped stepped = elim (after_step stepped) [
+    | inl on ↦ told_running on stepped.leaves.steps
+    | inr verdict ↦ told_ended after.study.state refl verdict
   ]
 
 -- an accepted call is not a refused one
@@ -293,7 +317,7 @@ module _ (meaning : Meaning) where
     along (step {m} {c} h after steps) =
         let was = along h in
         let on = step_accepted m after (ready m was.0) steps in
-        (stepped_keeps meaning laws on.0 m after was.0 on.1 on.2, told_stepped on.0 m after c was.1 on.1 meaning on.2)
+        (stepped_keeps meaning laws on.0 m was.0 on.1 after on.2, told_stepped on.0 m after c was.1 on.1 on.2)
     along (no_step {m} {c} h l p after e steps) = as_it_was m c after.study (ap (λ (x : Moment). x.study) (step_refused (moment m.study l p) after e steps)) (along h)
 
     pub law : Law meaning

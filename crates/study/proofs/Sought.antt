@@ -13,7 +13,7 @@ use Rattle.orders.proofs.Grows.{grown_maximal}
 use Rattle.study.specs.declared.room.Room.{Room}
 use Rattle.study.specs.Slots.{slot, put_slot}
 use Rattle.study.specs.Pieces.{piece, pieces, put_slots}
-use Rattle.study.specs.Turns.{lows_of, GrowsTo}
+use Rattle.study.specs.Deeds.{lows_of, GrowsTo}
 use Rattle.study.specs.Steps.{IsSlot}
 use Rattle.study.proofs.Overs.{Full, put_slot_length, put_slot_back, put_slot_other}
 use Rattle.study.proofs.Pieced.{piece_full}

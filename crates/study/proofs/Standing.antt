@@ -15,7 +15,7 @@ use Rattle.orders.proofs.Narrows.{narrowing}
 use Rattle.orders.proofs.Related.{related, own_estimates}
 use Rattle.study.specs.declared.finding.Finding.{Finding}
 use Rattle.study.specs.Slots.{slot}
-use Rattle.study.specs.Turns.{lows_of, Finds}
+use Rattle.study.specs.Deeds.{lows_of, Finds}
 use Rattle.study.specs.Histories.{Shown}
 use Rattle.study.specs.Steps.{ZeroPast, IsSlot}
 use Rattle.study.proofs.Overs.{Full}

@@ -1,49 +1,51 @@
--- A step's work, from what is done with the range that it takes.
-use Rattle.std.proofs.Common.{◌≡◌, ◌+◌, ◌-◌, ◌≤◌, ◌<◌, ◌⊎◌, length, subst, inl, inr}
+-- A step's work, from what the range that it takes calls for.
+use Rattle.std.proofs.Common.{◌≡◌, ℕ, ◌≤◌, ◌⊎◌, length, ap₂, subst, inl, inr, arith}
 use Rattle.std.proofs.lemmas.Bool.{cases_lt}
+use Rattle.bounds.specs.Questions.{Meaning}
 use Rattle.orders.specs.declared.range.Range.{Range}
 use Rattle.study.specs.declared.room.Room.{Room}
-use Rattle.study.specs.declared.finding.Finding.{Finding}
-use Rattle.study.specs.declared.state.State.TheVariants as state
-use Rattle.study.specs.declared.turn.Turn.TheVariants.{Keep, Find, Split}
-use Rattle.study.specs.Pieces.{pieces, put_slots}
+use Rattle.study.specs.declared.state.State.{State}
+use Rattle.study.specs.declared.deed.Deed.{Deed}
+use Rattle.study.specs.declared.deed.Deed.TheVariants.{End}
+use Rattle.study.specs.Counts.{Counted}
 use Rattle.study.specs.Moments.{Moment, rows_of}
-use Rattle.study.specs.Turns.{Turns}
-use Rattle.study.specs.Steps.{taken_of, pending_after, Leaves, Ends, recorded, Stepped, keeps, keep_stops, finds, splits, split_stops}
-use Rattle.bounds.specs.Questions.{Meaning}
+use Rattle.study.specs.Pieces.{pieces}
+use Rattle.study.specs.Deeds.{CallsFor}
+use Rattle.study.specs.Steps.{Runs, Left, Leaves, taken_of, pieces_of, left_by, Fits, CarriesOut, Stepped, does, stops}
 
--- what is done where a range is split, whether or not both lists have the slots
-pub record Divided (meaning : Meaning) (room : Room) (before after : Moment) (u : Range) (taken : Range) : Type 0 where
-  pub turn : Turns meaning (rows_of before) taken (Split u)
-  pub has : before.study.ledger < room.ledger → before.study.pending - 1 + length (pieces taken u (length (rows_of before))) ≤ room.pending
-      → Leaves before (state.Running room) (before.study.ledger + 1) (before.study.pending - 1 + length (pieces taken u (length (rows_of before))))
-      (recorded before u) (put_slots before.pending before.study.pending (pieces taken u (length (rows_of before)))) after
-  pub lacks : (room.ledger ≤ before.study.ledger) ⊎ (room.pending < before.study.pending - 1 + length (pieces taken u (length (rows_of before)))) → Ends before state.Stopped after
+fits_or_not : (room : Room) (left : Left) → Fits room left ⊎ (¬ Fits room left)
+fits_or_not room left = elim (cases_lt room.ledger left.ledger_count) [
+  | inl past ↦ inr (λ fits. omega (arith, past, fits.0))
+  | inr ledger ↦ elim (cases_lt room.pending left.pending_count) [
+    | inl past ↦ inr (λ fits. omega (arith, past, fits.1))
+    | inr pending ↦ inl (omega (arith, ledger), omega (arith, pending))
+  ]
+]
+
+-- while a search is running, its lists have the slots that are counted
+pub counted_fits : (room : Room) (before : Moment) → Runs room before → (before.study.ledger ≤ room.ledger) × (before.study.pending ≤ room.pending)
+counted_fits room before runs =
+    let s = before.study in
+    let counted = subst (λ x. Counted x s.ledger s.pending s.steps) runs s.counted in
+    (counted.0, counted.2)
+
+-- the pieces of the range that was taken, for as many rows as there are
+pub pieces_at : (before : Moment) (taken u : Range) (n : ℕ) → taken ≡ taken_of before → n ≡ length (rows_of before) → pieces taken u n ≡ pieces_of before u
+pieces_at before taken u n is rows = ap₂ (λ r k. pieces r u k) is rows
 
 module _ (meaning : Meaning) (room : Room) (before after : Moment) (some : 1 ≤ before.study.pending) (taken : Range) (is : taken ≡ taken_of before) where
-  pub stepped_keep : (grown : Range) → Turns meaning (rows_of before) taken (Keep grown)
-      → (before.study.ledger < room.ledger → Leaves before (state.Running room) (before.study.ledger + 1) (before.study.pending - 1) (recorded before grown) before.pending after)
-      → (room.ledger ≤ before.study.ledger → Ends before state.Stopped after)
-      → Stepped meaning room before after
-  stepped_keep grown turn has lacks =
-      let on = subst (λ r. Turns meaning (rows_of before) r (Keep grown)) is turn in
-      elim (cases_lt before.study.ledger room.ledger) [
-        | inl l ↦ keeps grown some on.0 on.1 l (has l)
-        | inr n ↦ keep_stops some on.0 n (lacks n)
-      ]
+  called : (deed : Deed) → CallsFor meaning (rows_of before) taken deed → CallsFor meaning (rows_of before) (taken_of before) deed
+  called deed calls = subst (λ r. CallsFor meaning (rows_of before) r deed) is calls
 
-  pub stepped_find : (f : Finding) → Turns meaning (rows_of before) taken (Find f) → Ends before (state.Found f) after → Stepped meaning room before after
-  stepped_find f turn ends =
-      let on = subst (λ r. Turns meaning (rows_of before) r (Find f)) is turn in
-      finds f some on.0 on.1 on.2 ends
+  pub stepped_end : Runs room before → (verdict : State) → CallsFor meaning (rows_of before) taken (End verdict) → Leaves before (left_by room before (End verdict)) after → Stepped meaning room before after
+  stepped_end runs verdict calls leaves = record {
+    deed = End verdict;
+    does = does (End verdict) some (called (End verdict) calls) (counted_fits room before runs);
+    leaves = leaves;
+  }
 
-  pub stepped_split : (u : Range) → Divided meaning room before after u taken → Stepped meaning room before after
-  stepped_split u given =
-      let on = subst (Divided meaning room before after u) is given in
-      elim (cases_lt before.study.ledger room.ledger) [
-        | inl l ↦ elim (cases_lt room.pending (pending_after before u)) [
-          | inl few ↦ split_stops u some on.turn.0 on.turn.1 on.turn.2 (inr few) (on.lacks (inr few))
-          | inr many ↦ splits u some on.turn.0 on.turn.1 on.turn.2 l many (on.has l many)
-        ]
-        | inr n ↦ split_stops u some on.turn.0 on.turn.1 on.turn.2 (inl n) (on.lacks (inl n))
-      ]
+  pub stepped_by : (deed : Deed) → CallsFor meaning (rows_of before) taken deed → CarriesOut room before deed after → Stepped meaning room before after
+  stepped_by deed calls carried = elim (fits_or_not room (left_by room before deed)) [
+    | inl fits ↦ record { deed = deed; does = does deed some (called deed calls) fits; leaves = carried.1 fits }
+    | inr lacks ↦ record { deed = End _; does = stops deed some (called deed calls) lacks; leaves = carried.0 lacks }
+  ]

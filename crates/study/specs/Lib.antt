@@ -5,7 +5,7 @@ pub mod Calls
 pub mod Moments
 pub mod Begins
 pub mod Pieces
-pub mod Turns
+pub mod Deeds
 pub mod Steps
 pub mod Histories
 pub mod Machine

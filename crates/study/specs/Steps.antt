@@ -1,20 +1,21 @@
 -- What a step does.
-use Rattle.std.specs.Prelude.{◌≡◌, ℕ, ◌+◌, ◌-◌, ◌*◌, ◌<◌, ◌≤◌, ◌⊎◌, List, length, Ok, Result}
+use Rattle.std.specs.Prelude.{◌≡◌, ℕ, ◌+◌, ◌-◌, ◌*◌, ◌<◌, ◌≤◌, List, length, Ok, Result}
 use Rattle.table.specs.declared.row.Row.{Row}
 use Rattle.table.specs.declared.fault.Fault.{Fault}
 use Rattle.table.specs.declared.fault.Fault.TheVariants.{NotRunning, OtherLists}
 use Rattle.table.specs.Places.{nth}
 use Rattle.table.specs.Asking.{Asks, Refuses}
 use Rattle.orders.specs.declared.range.Range.{Range}
-use Rattle.orders.specs.Ranges.{Within, Open, Closed}
-use Rattle.study.specs.declared.finding.Finding.{Finding}
+use Rattle.orders.specs.Ranges.{Within}
+use Rattle.study.specs.declared.deed.Deed.{Deed}
+use Rattle.study.specs.declared.deed.Deed.TheVariants.{End, Keep, Split}
 use Rattle.study.specs.declared.room.Room.{Room}
 use Rattle.study.specs.declared.state.State.{State}
 use Rattle.study.specs.declared.state.State.TheVariants as state
 use Rattle.study.specs.Slots.{slot, put_slot}
 use Rattle.study.specs.Pieces.{pieces, put_slots}
 use Rattle.study.specs.Moments.{Moment, rows_of}
-use Rattle.study.specs.Turns.{lows_of, GrowsTo, Finds}
+use Rattle.study.specs.Deeds.{CallsFor}
 use Rattle.bounds.specs.Questions.{Meaning}
 
 -- a search is running, on lists with this room
@@ -37,19 +38,23 @@ IsSlot rows r = Within rows r × ZeroPast (length rows) r.lows × ZeroPast (leng
 abbrev pub AsLeft : Room → Moment → Type 0
 AsLeft room m = (length m.ledger ≡ 64 * room.ledger) × (length m.pending ≡ 64 * room.pending) × (1 ≤ m.study.pending → IsSlot (rows_of m) (taken_of m))
 
--- after a step: the state, both slot counts and both lists; the table is as it was, and one step more is counted
-pub record Leaves (before : Moment) (s : State) (n m : ℕ) (l p : List ℕ) (after : Moment) : Type 0 where
-  pub table : after.study.table ≡ before.study.table
-  pub state : after.study.state ≡ s
-  pub ledger : after.study.ledger ≡ n
-  pub pending : after.study.pending ≡ m
-  pub steps : after.study.steps ≡ before.study.steps + 1
-  pub ledger_list : after.ledger ≡ l
-  pub pending_list : after.pending ≡ p
+-- What a step leaves: the state, how many slots are counted of each list, and both lists.
+pub record Left : Type 0 where
+  pub state : State
+  pub ledger_count : ℕ
+  pub pending_count : ℕ
+  pub ledger : List ℕ
+  pub pending : List ℕ
 
--- a verdict: no lent number and neither slot count is altered
-abbrev pub Ends : Moment → State → Moment → Type 0
-Ends before s after = Leaves before s before.study.ledger before.study.pending before.ledger before.pending after
+-- After a step these are left; the table is as it was, and one step more is counted.
+pub record Leaves (before : Moment) (left : Left) (after : Moment) : Type 0 where
+  pub table : after.study.table ≡ before.study.table
+  pub state : after.study.state ≡ left.state
+  pub ledger_count : after.study.ledger ≡ left.ledger_count
+  pub pending_count : after.study.pending ≡ left.pending_count
+  pub steps : after.study.steps ≡ before.study.steps + 1
+  pub ledger : after.ledger ≡ left.ledger
+  pub pending : after.pending ≡ left.pending
 
 -- the ledger with a range in the slot after the last counted one
 abbrev pub recorded : Moment → Range → List ℕ
@@ -59,32 +64,56 @@ recorded m r = put_slot m.ledger (m.study.ledger + 1) r
 abbrev pub pieces_of : Moment → Range → List Range
 pieces_of m u = pieces (taken_of m) u (length (rows_of m))
 
--- how many pending slots are counted once these stand in its place
-abbrev pub pending_after : Moment → Range → ℕ
-pending_after m u = m.study.pending - 1 + length (pieces_of m u)
+-- for each deed, what it leaves: a verdict alters no lent number and neither count; what is kept goes to the ledger, and its range leaves the list; what a range is split by goes to the ledger, and the range is replaced by its pieces
+abbrev pub left_by : Room → Moment → Deed → Left
+left_by room m (End verdict) = record {
+  state = verdict;
+  ledger_count = m.study.ledger;
+  pending_count = m.study.pending;
+  ledger = m.ledger;
+  pending = m.pending;
+}
+left_by room m (Keep grown) = record {
+  state = state.Running room;
+  ledger_count = m.study.ledger + 1;
+  pending_count = m.study.pending - 1;
+  ledger = recorded m grown;
+  pending = m.pending;
+}
+left_by room m (Split u) = record {
+  state = state.Running room;
+  ledger_count = m.study.ledger + 1;
+  pending_count = m.study.pending - 1 + length (pieces_of m u);
+  ledger = recorded m u;
+  pending = put_slots m.pending m.study.pending (pieces_of m u);
+}
+
+-- both lists have the slots that are counted
+abbrev pub Fits : Room → Left → Type 0
+Fits room left = (left.ledger_count ≤ room.ledger) × (left.pending_count ≤ room.pending)
+
+-- a deed is done where both lists have the slots for it, and where one is lacking the search is stopped
+abbrev pub CarriesOut : Room → Moment → Deed → Moment → Type 0
+CarriesOut room before deed after =
+    Asks (Fits room (left_by room before deed))
+    (Leaves before (left_by room before (End state.Stopped)) after)
+    (Leaves before (left_by room before deed) after)
 
 module _ (meaning : Meaning) where
-  -- One step's work on lists that are as the search left them: the first of these that applies.
-  pub data Stepped (room : Room) (before after : Moment) : Type 0 where
-    -- nothing is pending
-    none : before.study.pending ≡ 0 → Ends before state.None after → Stepped room before after
-    -- the last pending range is closed: its grown form goes to the ledger, and it leaves the list
-    keeps : (grown : Range) → 1 ≤ before.study.pending → Closed meaning (rows_of before) (taken_of before) → GrowsTo meaning (rows_of before) (taken_of before) grown
-        → before.study.ledger < room.ledger
-        → Leaves before (state.Running room) (before.study.ledger + 1) (before.study.pending - 1) (recorded before grown) before.pending after → Stepped room before after
-    -- it is closed, and the ledger has no slot left
-    keep_stops : 1 ≤ before.study.pending → Closed meaning (rows_of before) (taken_of before) → room.ledger ≤ before.study.ledger → Ends before state.Stopped after → Stepped room before after
-    -- the range is open, and so is the list of its lows
-    finds : (f : Finding) → 1 ≤ before.study.pending → Open meaning (rows_of before) (taken_of before) → Open meaning (rows_of before) (lows_of (taken_of before)) → Finds meaning (rows_of before) (taken_of before) f → Ends before (state.Found f) after → Stepped room before after
-    -- neither: the list of its lows is grown to U, which goes to the ledger, and the range is replaced by its pieces
-    splits : (u : Range) → 1 ≤ before.study.pending → Open meaning (rows_of before) (taken_of before) → Closed meaning (rows_of before) (lows_of (taken_of before)) → GrowsTo meaning (rows_of before) (lows_of (taken_of before)) u
-        → before.study.ledger < room.ledger → pending_after before u ≤ room.pending
-        → Leaves before (state.Running room) (before.study.ledger + 1) (pending_after before u)
-        (recorded before u) (put_slots before.pending before.study.pending (pieces_of before u)) after → Stepped room before after
-    -- neither, and a ledger or pending slot is lacking
-    split_stops : (u : Range) → 1 ≤ before.study.pending → Open meaning (rows_of before) (taken_of before) → Closed meaning (rows_of before) (lows_of (taken_of before)) → GrowsTo meaning (rows_of before) (lows_of (taken_of before)) u
-        → (room.ledger ≤ before.study.ledger) ⊎ (room.pending < pending_after before u)
-        → Ends before state.Stopped after → Stepped room before after
+  -- What a step does on lists that are as the search left them.
+  pub data Does (room : Room) (before : Moment) : Deed → Type 0 where
+    -- nothing is pending: it ends with none
+    none : before.study.pending ≡ 0 → Does room before (End state.None)
+    -- what the last pending range calls for, where both lists have the slots
+    does : (deed : Deed) → 1 ≤ before.study.pending → CallsFor meaning (rows_of before) (taken_of before) deed → Fits room (left_by room before deed) → Does room before deed
+    -- and where a slot is lacking it ends with stopped
+    stops : (deed : Deed) → 1 ≤ before.study.pending → CallsFor meaning (rows_of before) (taken_of before) deed → ¬ Fits room (left_by room before deed) → Does room before (End state.Stopped)
+
+  -- one step's work: it does one deed, and leaves what that leaves
+  pub record Stepped (room : Room) (before after : Moment) : Type 0 where
+    pub deed : Deed
+    pub does : Does room before deed
+    pub leaves : Leaves before (left_by room before deed) after
 
   -- step: is a search running, and are both lists as it left them?
   abbrev pub Steps : Moment → Result (Unit {0}) Fault → Moment → Type 0

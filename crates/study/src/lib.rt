@@ -1,6 +1,7 @@
 #![tactic(auto)]
 
 pub mod call;
+mod deed;
 pub mod edit;
 pub mod finding;
 mod lists;
@@ -8,7 +9,6 @@ mod pieces;
 pub mod room;
 pub mod state;
 pub mod study;
-mod turn;
 mod whole;
 
 pub use call::Call;

@@ -10,12 +10,12 @@ ghost use Rattle.study.specs.Counts.{Counted, verdicts};
 ghost use Rattle.study.specs.Pieces.{pieces, put_slots};
 
 use crate::call::Call;
+use crate::deed::Deed;
 use crate::edit::Edit;
 use crate::lists::{SLOT, is_slot, read_slot, write_slot};
 use crate::pieces::{count_pieces, write_pieces};
 use crate::room::Room;
 use crate::state::State;
-use crate::turn::Turn;
 use crate::whole::whole_range;
 use bounds::Test;
 use orders::Range;
@@ -179,13 +179,15 @@ impl Study {
 // The work of one step: it ends with a verdict, or puts a range into the ledger and goes on.
 impl Study {
     ghost use Rattle.study.specs.Moments.{moment};
-    ghost use Rattle.study.specs.Steps.{AsLeft, Ends, Leaves, Runs, Stepped, recorded, taken_of};
+    ghost use Rattle.study.specs.declared.deed.Deed.TheVariants as deed;
+    ghost use Rattle.study.specs.Steps.{AsLeft, CarriesOut, Leaves, Runs, Stepped, left_by, recorded, taken_of};
 
     // Ends a search with a verdict.
     fn end(&mut self, room: Room, verdict: State)
         requires runs { self.old.state ≡ state.Running room }
         requires verdict { verdicts verdict ≡ 1 }
-        ensures { (l p : List ℕ) → Ends (moment self.old l p) verdict (moment self.new l p) }
+        ensures { (l p : List ℕ) → let m = moment self.old l p in
+            Leaves m (left_by room m (deed.End verdict)) (moment self.new l p) }
     {
         self.state = verdict;
         self.steps += 1;
@@ -197,7 +199,7 @@ impl Study {
         requires long { length ledger.old ≡ 64 * room.ledger }
         requires left { (self.old.ledger < room.ledger) × (pending ≤ room.pending) }
         ensures { (p q : List ℕ) → let m = moment self.old ledger.old p in
-            Leaves m (state.Running room) (self.old.ledger + 1) pending (recorded m range.now) q (moment self.new ledger.new q) }
+            Leaves m (record { state = state.Running room; ledger_count = self.old.ledger + 1; pending_count = pending; ledger = recorded m range.now; pending = q }) (moment self.new ledger.new q) }
     {
         write_slot(ledger, self.ledger + 1, range);
         self.ledger += 1;
@@ -237,9 +239,8 @@ impl Study {
         requires runs { self.old.state ≡ state.Running room }
         requires some { 1 ≤ self.old.pending }
         requires long { length ledger.old ≡ 64 * room.ledger }
-        ensures kept { (p : List ℕ) → self.old.ledger < room.ledger → let m = moment self.old ledger.old p in
-            Leaves m (state.Running room) (self.old.ledger + 1) (self.old.pending - 1) (recorded m grown.now) p (moment self.new ledger.new p) }
-        ensures full { (p : List ℕ) → room.ledger ≤ self.old.ledger → Ends (moment self.old ledger.old p) state.Stopped (moment self.new ledger.new p) }
+        ensures { (p : List ℕ) → let m = moment self.old ledger.old p in
+            CarriesOut room m (deed.Keep grown.now) (moment self.new ledger.new p) }
     {
         if self.ledger == room.ledger {
             return self.end(room, State::Stopped);
@@ -260,13 +261,9 @@ impl Study {
         requires runs { self.old.state ≡ state.Running room }
         requires some { 1 ≤ self.old.pending }
         requires long { (length ledger.old ≡ 64 * room.ledger) × (length pending.old ≡ 64 * room.pending) }
-        ensures split { let m = moment self.old ledger.old pending.old in
-            let ps = pieces taken.now grown.now (length (view self.old.table)) in
-            self.old.ledger < room.ledger → self.old.pending - 1 + length ps ≤ room.pending →
-            Leaves m (state.Running room) (self.old.ledger + 1) (self.old.pending - 1 + length ps) (recorded m grown.now) (put_slots pending.old self.old.pending ps) (moment self.new ledger.new pending.new) }
-        ensures full { let ps = pieces taken.now grown.now (length (view self.old.table)) in
-            (room.ledger ≤ self.old.ledger) ⊎ (room.pending < self.old.pending - 1 + length ps) →
-            Ends (moment self.old ledger.old pending.old) state.Stopped (moment self.new ledger.new pending.new) }
+        requires taken { taken.now ≡ taken_of (moment self.old ledger.old pending.old) }
+        ensures { let m = moment self.old ledger.old pending.old in
+            CarriesOut room m (deed.Split grown.now) (moment self.new ledger.new pending.new) }
     {
         let rows = self.table.len();
         let left = self.pending - 1 + count_pieces(rows, taken, grown);
@@ -292,10 +289,10 @@ impl Study {
         requires taken { taken.now ≡ taken_of (moment self.old ledger.old pending.old) }
         ensures { Stepped (T.answer test.now) room (moment self.old ledger.old pending.old) (moment self.new ledger.new pending.new) }
     {
-        match Turn::new(test, &self.table, taken) {
-            Turn::Keep(grown) => self.keep(room, &grown, ledger),
-            Turn::Find(finding) => self.end(room, State::Found(finding)),
-            Turn::Split(grown) => self.split(room, taken, &grown, ledger, pending),
+        match Deed::new(test, &self.table, taken) {
+            Deed::End(verdict) => self.end(room, verdict),
+            Deed::Keep(grown) => self.keep(room, &grown, ledger),
+            Deed::Split(grown) => self.split(room, taken, &grown, ledger, pending),
         }
     }
 

@@ -1,4 +1,4 @@
--- What a step does with a range that it takes.
+-- What the last pending range calls for.
 use Rattle.std.specs.Prelude.{◌≡◌, List, length, Some}
 use Rattle.table.specs.declared.row.Row.{Row}
 use Rattle.orders.specs.declared.range.Range.{Range}
@@ -6,8 +6,9 @@ use Rattle.orders.specs.Ranges.{Open, Closed}
 use Rattle.orders.specs.Assigner.{Assigns}
 use Rattle.orders.specs.Growth.{GrownTo}
 use Rattle.study.specs.declared.finding.Finding.{Finding}
-use Rattle.study.specs.declared.turn.Turn.{Turn}
-use Rattle.study.specs.declared.turn.Turn.TheVariants.{Keep, Find, Split}
+use Rattle.study.specs.declared.state.State.TheVariants as state
+use Rattle.study.specs.declared.deed.Deed.{Deed}
+use Rattle.study.specs.declared.deed.Deed.TheVariants.{End, Keep, Split}
 use Rattle.bounds.specs.Questions.{Meaning}
 
 -- the list of a range's lows, as a range
@@ -23,8 +24,11 @@ module _ (meaning : Meaning) (rows : List Row) where
   abbrev pub Finds : Range → Finding → Type 0
   Finds taken f = Assigns meaning rows (lows_of taken) (Some f.order) × (f.estimates ≡ taken.lows)
 
-  -- the first of these that applies: the range is closed, and its grown form is kept; the list of its lows is open, and its order found; or that list is grown, and the range split by it
-  abbrev pub Turns : Range → Turn → Type 0
-  Turns taken (Keep grown) = Closed meaning rows taken × GrowsTo taken grown
-  Turns taken (Find f) = Open meaning rows taken × Open meaning rows (lows_of taken) × Finds taken f
-  Turns taken (Split u) = Open meaning rows taken × Closed meaning rows (lows_of taken) × GrowsTo (lows_of taken) u
+  -- What a range calls for, the first of these that applies: it is closed, and its grown form is kept; the list of its lows is open, and the search ends with that list's order; or that list is grown, and the range split by it.
+  abbrev pub CallsFor : Range → Deed → Type 0
+  CallsFor taken (Keep grown) = Closed meaning rows taken × GrowsTo taken grown
+  CallsFor taken (End verdict) =
+      Open meaning rows taken × Open meaning rows (lows_of taken)
+      × ((f : Finding) × (verdict ≡ state.Found f) × Finds taken f)
+  CallsFor taken (Split u) =
+      Open meaning rows taken × Closed meaning rows (lows_of taken) × GrowsTo (lows_of taken) u
