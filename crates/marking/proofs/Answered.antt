@@ -13,14 +13,12 @@ use Rattle.bounds.specs.Orders.{Order, Estimates, FirstMiss, Checks}
 use Rattle.sheets.specs.declared.form.Column.TheVariants.{Wcet, Deadline, Estimate}
 use Rattle.sheets.specs.declared.sheet.Sheet.{Sheet}
 use Rattle.sheets.specs.Pairs.{count_of, task_of, HasTaskAt}
+use Rattle.study.proofs.Standing.{nth_taken}
 use Rattle.marking.specs.Questions.{number_under}
 use Rattle.marking.specs.Reports.{CaseOf, board_answer, AnswerOf, ChecksAnswer, OutcomeOf}
 use Rattle.marking.specs.declared.case.Case.{Case}
 use Rattle.marking.specs.declared.report.Outcome.{Outcome}
 use Rattle.marking.proofs.Claimed.{one_row, row_here}
-
-pub nth_taken : (n : ℕ) (xs : List ℕ) (k : ℕ) → 1 ≤ k → k ≤ n → nth (take n xs) k 0 ≡ nth xs k 0
-nth_taken n xs k low high = nth_at (take n xs) k 0 low ∙ get_or-take n xs (k - 1) 0 (omega arith) ∙ sym (nth_at xs k 0 low)
 
 module _ (board tasks answer : Sheet) (own : Case) (case : CaseOf board tasks answer own) (few : count_of answer ≤ 32) where
   abbrev n : ℕ

@@ -20,9 +20,9 @@ use Rattle.table.proofs.View.{few_rows}
 use Rattle.bounds.specs.Orders.{FirstMiss}
 use Rattle.marking.proofs.DeterminedOutcomes.{one_miss, one_order, one_estimates, outcome_alike}
 use Rattle.marking.specs.Reports.{SameLevels, SameShown, SameOutcome, SameReport, OutcomeOf, board_answer, slots, names_of, verdict_of, LevelsIn, BlankPast, ShowsStudy, Marked}
-use Rattle.marking.proofs.DeterminedSteps.{SameFinding}
-use Rattle.marking.proofs.DeterminedMoments.{SameState, same_state, same_found, Alike}
-use Rattle.marking.proofs.DeterminedSearches.{searched_alike}
+use Rattle.study.proofs.OneDeed.{SameFinding}
+use Rattle.study.proofs.AlikeMoments.{SameState, same_state, same_found, Alike}
+use Rattle.study.proofs.AlikeSearches.{searched_alike}
 use Rattle.marking.proofs.DeterminedSheets.{SameSheet, one_sheet, same_field}
 use Rattle.marking.proofs.DeterminedCases.{one_test, same_count, one_rows}
 
@@ -96,7 +96,7 @@ module _ (x y z : List ℕ) (r q : Report) (one : Marked x y z r) (two : Marked 
       let search = one.reports.searched in
       let search' = two.reports.searched in
       let rows : rows_of search.first ≡ rows_of search'.first = ap (λ (s : Study). view s.table) search.begins ∙ same_rows ∙ sym (ap (λ (s : Study). view s.table) search'.begins) in
-      searched_alike one.test slots search.first search'.first search.room search'.room rows search.last search'.last search.searched
+      searched_alike (board_answer one.test) (answer_laws one.test) slots search.first search'.first search.room search'.room rows search.last search'.last search.searched
       (subst (λ t. Searched (board_answer t) slots search'.first search'.last) (sym same_test) search'.searched)
 
   -- what two reports on three texts show of the search is the same

@@ -3,12 +3,9 @@ pub mod Answered
 pub mod Claimed
 pub mod Counted
 pub mod DeterminedCases
-pub mod DeterminedMoments
 pub mod DeterminedOutcomes
 pub mod DeterminedReports
-pub mod DeterminedSearches
 pub mod DeterminedSheets
-pub mod DeterminedSteps
 pub mod Ended
 pub mod Faults
 pub mod Full

@@ -21,12 +21,10 @@ use Rattle.study.specs.Counts.{verdicts, finding_in}
 use Rattle.study.specs.Moments.{Moment, rows_of}
 use Rattle.study.specs.Begins.{HasRoom}
 use Rattle.study.specs.Histories.{Shown}
-use Rattle.study.specs.Steps.{Stepped, none, keeps, keep_stops, finds, splits, split_stops}
-use Rattle.study.specs.Searches.{Leads, begins, steps}
-use Rattle.study.proofs.Lawful.{KeepsAt, begun_keeps, stepped_keeps, begin_accepted, step_accepted, ready}
+use Rattle.study.proofs.Led.{leads_kept}
 use Rattle.sheets.specs.declared.sheet.Sheet.{Sheet}
 use Rattle.sheets.specs.Pairs.{count_of, task_of}
-use Rattle.marking.proofs.Answered.{nth_taken}
+use Rattle.study.proofs.Standing.{nth_taken}
 use Rattle.marking.specs.declared.report.Report.{Report}
 use Rattle.marking.specs.declared.report.Verdict.{Verdict}
 use Rattle.marking.specs.declared.report.Verdict.TheVariants as verdict
@@ -36,26 +34,9 @@ pub answer_laws : (t : Overhead NamedTest) → Laws (board_answer t)
 answer_laws = over_laws named_laws
 
 module _ (t : Overhead NamedTest) where
-  stepped_table : (room : Room) (before after : Moment) → Stepped (board_answer t) room before after → after.study.table ≡ before.study.table
-  stepped_table room before after (none empty ends) = ends.table
-  stepped_table room before after (keeps grown some closed grows has leaves) = leaves.table
-  stepped_table room before after (keep_stops some closed lacks ends) = ends.table
-  stepped_table room before after (finds f some open' lows found ends) = ends.table
-  stepped_table room before after (splits u some open' closed grows has few leaves) = leaves.table
-  stepped_table room before after (split_stops u some open' closed grows lacks ends) = ends.table
-
-  pub leads_table : (room : Room) (before : Moment) → HasRoom room before → {n : ℕ} {after : Moment} → Leads (board_answer t) room before n after → (after.study.table ≡ before.study.table) × KeepsAt (board_answer t) after
-  leads_table room before has (begins {after} begun) =
-      let on = begin_accepted before after room has begun in
-      (on.2.table, begun_keeps (board_answer t) on.0 before after on.1 on.2)
-  leads_table room before has (steps {n} {m} {after} leads going one) =
-      let was = leads_table room before has leads in
-      let on = step_accepted (board_answer t) m after (ready (board_answer t) m was.1) one in
-      (stepped_table on.0 m after on.2 ∙ was.0, stepped_keeps (board_answer t) (answer_laws t) on.0 m after was.1 on.1 on.2)
-
   module _ (before after : Study) (search : SearchedTo t before after) where
     same_table : after.table ≡ before.table
-    same_table = ap (λ (s : Study). s.table) (sym search.ends) ∙ (leads_table _ search.first search.room search.searched.leads).0 ∙ ap (λ (s : Study). s.table) search.begins
+    same_table = ap (λ (s : Study). s.table) (sym search.ends) ∙ (leads_kept (board_answer t) (answer_laws t) search.room search.first search.searched.leads).0 ∙ ap (λ (s : Study). s.table) search.begins
 
     pub last_rows : rows_of search.last ≡ view before.table
     last_rows = ap (λ (s : Study). view s.table) search.ends ∙ ap (λ (u : Table). view u) same_table

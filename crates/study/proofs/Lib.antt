@@ -12,3 +12,7 @@ pub mod Started
 pub mod Lawful
 pub mod Going
 pub mod Called
+pub mod OneDeed
+pub mod Led
+pub mod AlikeMoments
+pub mod AlikeSearches

@@ -22,6 +22,10 @@ use Rattle.study.proofs.Overs.{Full}
 use Rattle.study.proofs.Turned.{lows_within}
 use Rattle.study.proofs.Sought.{Holding, AllBarred}
 
+-- the first n of a list, read at one of them
+pub nth_taken : (n : ℕ) (xs : List ℕ) (k : ℕ) → 1 ≤ k → k ≤ n → nth (take n xs) k 0 ≡ nth xs k 0
+nth_taken n xs k low high = nth_at (take n xs) k 0 low ∙ get_or-take n xs (k - 1) 0 (omega arith) ∙ sym (nth_at xs k 0 low)
+
 -- lows with 0 past the last row are the first n of them, filled up
 lows_padded : (n : ℕ) (xs : List ℕ) → n ≤ 32 → length xs ≡ 32 → ZeroPast n xs → padded (take n xs) ≡ xs
 lows_padded n xs few long past = ext_get_or 0 _ _ (padded_length (take n xs) ∙ sym long) (λ j l.
@@ -36,7 +40,7 @@ lows_estimates : (rows : List Row) (r : Range) → length rows ≤ 32 → Full r
 lows_estimates rows r few full within = record {
   size = length-take (length rows) r.lows ∙ omega (arith, full.lows);
   within = λ k names.
-      let same : nth (take (length rows) r.lows) k 0 ≡ nth r.lows k 0 = nth_at (take (length rows) r.lows) k 0 names.0 ∙ get_or-take (length rows) r.lows (k - 1) 0 (omega (arith, names.0, names.1)) ∙ sym (nth_at r.lows k 0 names.0) in
+      let same = nth_taken (length rows) r.lows k names.0 names.1 in
       let at = within k names in
       (omega (arith, same, at.0), omega (arith, same, at.1, at.2));
 }

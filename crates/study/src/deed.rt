@@ -9,9 +9,9 @@ use orders::settle::settle;
 use orders::{Range, Settled};
 use table::Table;
 
-// What a step does.
-#[derive(Clone, Copy)]
-pub(crate) enum Deed {
+/// What a step of a search does.
+#[derive(Clone, Copy, PartialEq, Eq, Debug)]
+pub enum Deed {
     /// It ends the search with this verdict.
     End(State),
     /// It puts the grown form of the last pending range into the ledger, and takes the range off the list.

@@ -1,7 +1,7 @@
 #![tactic(auto)]
 
 pub mod call;
-mod deed;
+pub mod deed;
 pub mod edit;
 pub mod finding;
 mod lists;

@@ -90,10 +90,6 @@ pub both_closed : Closed (rta 1) pair both
 unfolding nth put all_to sum_to least_from fill full
 both_closed = shut one pair both (lit≤ tt) refl
 
-pub both_lows_closed : Closed (rta 1) pair (record { lows = both.lows; highs = both.lows })
-unfolding nth put all_to sum_to least_from fill full
-both_lows_closed = shut one pair (record { lows = both.lows; highs = both.lows }) (lit≤ tt) refl
-
 -- the one row
 abbrev pub five : Range
 five = record { lows = padded (5 ∷ []); highs = padded (5 ∷ []) }

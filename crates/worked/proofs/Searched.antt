@@ -9,12 +9,12 @@ use Rattle.orders.specs.Growth.{GrownTo, start, next}
 use Rattle.orders.proofs.Withins.{within_from}
 use Rattle.study.specs.Whole.{whole}
 use Rattle.study.specs.Pieces.{cut, pieces}
-use Rattle.study.specs.Turns.{lows_of}
+use Rattle.study.specs.Deeds.{lows_of}
 use Rattle.study.proofs.Runs.{EachFull}
 use Rattle.worked.specs.Examples.{tasks, pair, lone, both, ranged, FoundAfterSplit, NoneAfterKept, FoundAtOnce}
 use Rattle.worked.proofs.Growths.{low_to_cost, high_to_deadline, high_to}
 use Rattle.worked.proofs.Searching.{begun_on, stepped_on, does_keep, does_split, does_find, ends_none}
-use Rattle.worked.proofs.Decisions.{two, one, of_three, all_open, lows_closed, a_closed, a_open, b_closed, b_open, c_closed, c_open, last_open, last_lows_open, last_order, last_inside, both_closed, both_lows_closed, five, lone_open, lone_order, lone_inside}
+use Rattle.worked.proofs.Decisions.{two, one, of_three, all_open, lows_closed, a_closed, a_open, b_closed, b_open, c_closed, c_open, last_open, last_lows_open, last_order, last_inside, both_closed, five, lone_open, lone_order, lone_inside}
 
 -- the list of the tasks' lows grows to the closed range: a's high, b's and c's
 grown_lows : GrownTo (rta 2) tasks (lows_of (whole tasks)) 3 (ranged 4)
@@ -60,7 +60,7 @@ found_after_split before begun room r is has first three begins =
               on.pending,
               λ r found steps.
                   let stepped = stepped_on (rta 2) own split found r on.runs on.kept steps in
-                  let finds = does_find (rta 2) tasks own 1 3 (of_three 2 2 5 3 3 6) split found on stepped.1 (lit≤ tt) (within_from tasks (of_three 2 2 5 2 2 5) last_inside) last_open last_lows_open _ last_order in
+                  let finds = does_find (rta 2) tasks own 1 3 (of_three 2 2 5 3 3 6) split found on stepped.1 last_open last_lows_open (lit≤ tt) (within_from tasks (of_three 2 2 5 2 2 5) last_inside) _ last_order in
                   (stepped.0, (finds.0, finds.1, finds.2, finds.3)),
             ),
           ),
@@ -83,7 +83,7 @@ none_after_kept before begun room r is has first other begins =
       λ r kept steps.
           let stepped = stepped_on (rta 1) own begun kept r on.runs on.kept steps in
           let keeps = does_keep (rta 1) pair own 0 1 both begun kept on stepped.1 (rta_laws one) (lit≤ tt) (omega (arith, first, did.1.1)) both
-          (record { lows = refl; highs = refl }) both_closed both_lows_closed both_grown in
+          (record { lows = refl; highs = refl }) both_closed both_grown in
           let on = keeps.2 in (
             stepped.0,
             (
@@ -103,6 +103,6 @@ found_at_once p before begun room r is has one other begins =
       did.0,
       λ r found steps.
           let stepped = stepped_on (rta p.count) own begun found r on.runs on.kept steps in
-          let finds = does_find (rta p.count) lone own 0 1 five begun found on stepped.1 (lit≤ tt) (within_from lone five lone_inside) (lone_open p) (lone_open p) _ (lone_order p) in
+          let finds = does_find (rta p.count) lone own 0 1 five begun found on stepped.1 (lone_open p) (lone_open p) (lit≤ tt) (within_from lone five lone_inside) _ (lone_order p) in
           (stepped.0, (finds.0, finds.1, finds.2, finds.4)),
     )

@@ -17,11 +17,14 @@ use Rattle.study.specs.Pieces.{pieces, put_slots}
 use Rattle.study.specs.Moments.{Moment, rows_of}
 use Rattle.study.specs.Whole.{whole}
 use Rattle.study.specs.Begins.{HasRoom, Begins}
-use Rattle.study.specs.Turns.{lows_of, GrowsTo, Finds}
-use Rattle.study.specs.Steps.{Runs, taken_of, Stepped, Steps, none, keeps, keep_stops, finds, splits, split_stops}
+use Rattle.study.specs.declared.deed.Deed.{Deed}
+use Rattle.study.specs.declared.deed.Deed.TheVariants.{End, Keep, Split}
+use Rattle.study.specs.Deeds.{lows_of, GrowsTo, Finds, CallsFor}
+use Rattle.study.specs.Steps.{Runs, taken_of, pieces_of, left_by, Fits, Leaves, Does, Stepped, Steps, none, does, stops}
+use Rattle.study.proofs.Stepping.{counted_fits}
+use Rattle.study.proofs.OneDeed.{goes_on, same_on, called_done}
 use Rattle.study.proofs.Overs.{Full, put_slot_back}
 use Rattle.study.proofs.Runs.{EachFull, put_slots_back}
-use Rattle.orders.proofs.OneGrowth.{one_growth}
 use Rattle.study.proofs.Lawful.{room_of, KeepsAt, begun_keeps, stepped_keeps, ready}
 
 module _ (meaning : Meaning) where
@@ -66,45 +69,58 @@ module _ (meaning : Meaning) where
       (did.0, subst (λ x. Stepped meaning x at after) (ap (room_of room) (sym on.1 ∙ runs)) did.1)
 
   module _ {rows : List Row} {room : Room} {n m : ℕ} {taken : Range} {at : Moment} (on : On rows room n m taken at) where
-    -- what is so of the moment is so of the rows and the range that are known
+    -- what is so of the moment is so of the rows and the range that are known, and the other way round
     known : (P : List Row → Range → Type 0) → P (rows_of at) (taken_of at) → P rows taken
     known P p = subst (P rows) on.taken_is (subst (λ x. P x (taken_of at)) on.rows_are p)
 
-    -- so what is known to be open is not closed there, and the other way round
-    not_closed : (f : Range → Range) → Open meaning rows (f taken) → Closed meaning (rows_of at) (f (taken_of at)) → ⊥
-    not_closed f (order, admits) closed = known (λ rs x. Closed meaning rs (f x)) closed order admits
-
-    not_open : (f : Range → Range) → Closed meaning rows (f taken) → Open meaning (rows_of at) (f (taken_of at)) → ⊥
-    not_open f closed opened = let here = known (λ rs x. Open meaning rs (f x)) opened in closed here.0 here.1
+    here : (P : List Row → Range → Type 0) → P rows taken → P (rows_of at) (taken_of at)
+    here P p = subst (λ x. P x (taken_of at)) (sym on.rows_are) (subst (P rows) (sym on.taken_is) p)
 
   module _ (rows : List Row) (room : Room) (n m : ℕ) (taken : Range) (at after : Moment) (on : On rows room n m taken at) (did : Stepped meaning room at after) where
+    empty_ends : (deed : Deed) → m ≡ 0 → Does meaning room at deed → (left_by room at deed).state ≡ state.None
+    empty_ends deed empty (none nothing) = refl
+    empty_ends deed empty (does x some calls fits) = absurd (omega (arith, some, on.pending, empty))
+    empty_ends deed empty (stops x some calls lacks) = absurd (omega (arith, some, on.pending, empty))
+
     -- nothing is pending: the search says none
     pub ends_none : m ≡ 0 → after.study.state ≡ state.None
-    ends_none empty = elim did [
-      | none nothing ends ↦ ends.state
-      | keeps grown some closed grows left leaves ↦ absurd (omega (arith, some, on.pending, empty))
-      | keep_stops some closed lacks ends ↦ absurd (omega (arith, some, on.pending, empty))
-      | finds f some opens lows found ends ↦ absurd (omega (arith, some, on.pending, empty))
-      | splits u some opens closed grows left enough leaves ↦ absurd (omega (arith, some, on.pending, empty))
-      | split_stops u some opens closed grows lacks ends ↦ absurd (omega (arith, some, on.pending, empty))
-    ]
+    ends_none empty = did.leaves.state ∙ empty_ends did.deed empty did.does
 
-    -- the list of the lows is open: its order is found
-    pub does_find : 1 ≤ m → Within rows (lows_of taken) → Open meaning rows taken → Open meaning rows (lows_of taken) → (order : List ℕ) → assigned meaning rows (lows_of taken) ≡ Some order
-        → (f : Finding) × (after.study.state ≡ state.Found f) × (take (length rows) f.order ≡ order) × (f.estimates ≡ taken.lows) × (after.study.ledger ≡ n)
-    does_find waits within opens below order is =
-        elim did [
-          | none nothing ends ↦ absurd (omega (arith, nothing, on.pending, waits))
-          | keeps grown some closed grows left leaves ↦ absurd (not_closed on (λ x. x) opens closed)
-          | keep_stops some closed lacks ends ↦ absurd (not_closed on (λ x. x) opens closed)
-          | finds f some opened lows found ends ↦ let this = known on (λ rs x. Finds meaning rs x f) found in (f, ends.state, same_Some _ _ (sym (this.0.1 within).0 ∙ is), this.1, ends.ledger ∙ on.ledger)
-          | splits u some opened closed grows left enough leaves ↦ absurd (not_closed on lows_of below closed)
-          | split_stops u some opened closed grows lacks ends ↦ absurd (not_closed on lows_of below closed)
-        ]
+    -- a step that finds an order for the list of the lows
+    Found : Deed → Type 0
+    Found deed = (f : Finding) × (deed ≡ End (state.Found f)) × Finds meaning rows taken f
+
+    module _ (opens : Open meaning rows taken) (below : Open meaning rows (lows_of taken)) where
+      calls_found : (deed : Deed) → CallsFor meaning rows taken deed → Found deed
+      unfolding Found
+      calls_found (End verdict) calls = (calls.2.0, ap End calls.2.1, calls.2.2)
+      calls_found (Keep grown) calls = absurd (calls.0 opens.0 opens.1)
+      calls_found (Split u) calls = absurd (calls.1 below.0 below.1)
+
+      found_fits : (deed : Deed) → Found deed → Fits room (left_by room at deed)
+      unfolding Found
+      found_fits deed found = subst (λ x. Fits room (left_by room at x)) (sym found.1) (counted_fits room at on.runs)
+
+      finds : (deed : Deed) → 1 ≤ m → Does meaning room at deed → Found deed
+      finds deed waits (none nothing) = absurd (omega (arith, nothing, on.pending, waits))
+      finds deed waits (does x some calls fits) = calls_found x (known on (λ rs r. CallsFor meaning rs r x) calls)
+      finds deed waits (stops x some calls lacks) = absurd (lacks (found_fits x (calls_found x (known on (λ rs r. CallsFor meaning rs r x) calls))))
+
+      -- the list of the lows is open: its order is found
+      pub does_find : 1 ≤ m → Within rows (lows_of taken) → (order : List ℕ) → assigned meaning rows (lows_of taken) ≡ Some order
+          → (f : Finding) × (after.study.state ≡ state.Found f) × (take (length rows) f.order ≡ order) × (f.estimates ≡ taken.lows) × (after.study.ledger ≡ n)
+      unfolding Found
+      does_find waits within order is =
+          let found = finds did.deed waits did.does in
+          let leaves : Leaves at (left_by room at (End (state.Found found.0))) after = subst (λ x. Leaves at (left_by room at x) after) found.1 did.leaves in
+          (found.0, leaves.state, same_Some _ _ (sym (found.2.0.1 within).0 ∙ is), found.2.1, leaves.ledger_count ∙ on.ledger)
 
     module _ (laws : Laws meaning) (waits : 1 ≤ m) (left : n < room.ledger) where
       next_kept : KeepsAt meaning after
-      next_kept = stepped_keeps meaning laws room at after on.kept on.runs did
+      next_kept = stepped_keeps meaning laws room at on.kept on.runs after did
+
+      some : 1 ≤ at.study.pending
+      some = omega (arith, on.pending, waits)
 
       -- what is written to the ledger is read back
       written : (q : Range) → Full q → after.ledger ≡ put_slot at.ledger (at.study.ledger + 1) q → slot after.ledger (n + 1) ≡ q
@@ -112,65 +128,52 @@ module _ (meaning : Meaning) where
           ap (λ l. slot l (n + 1)) (is ∙ ap (λ i. put_slot at.ledger (i + 1) q) on.ledger)
           ∙ put_slot_back at.ledger (n + 1) q wide (omega arith) (omega (arith, left, (on.kept.runs room on.runs).long_ledger))
 
+      -- the range calls for a deed after which the search goes on, and both lists have the slots: it is done
+      goes : (deed : Deed) → 1 ≤ goes_on deed → CallsFor meaning rows taken deed → Fits room (left_by room at deed) → Leaves at (left_by room at deed) after
+      goes deed on_it calls fits =
+          let within = ((on.kept.runs room on.runs).waiting at.study.pending some (omega arith)).0 in
+          let done = called_done meaning room at within some did.deed deed (here on (λ rs r. CallsFor meaning rs r deed) calls) fits did.does in
+          subst (λ x. Leaves at (left_by room at x) after) (same_on _ did.deed deed done on_it) did.leaves
+
       -- the range is closed: its grown form goes to the ledger
-      pub does_keep : (q : Range) → Full q → Closed meaning rows taken → Closed meaning rows (lows_of taken) → GrowsTo meaning rows taken q
+      pub does_keep : (q : Range) → Full q → Closed meaning rows taken → GrowsTo meaning rows taken q
           → (after.study.ledger ≡ n + 1) × (slot after.ledger (n + 1) ≡ q) × On rows room (n + 1) (m - 1) (taken_of after) after
-      does_keep q wide closed below grows =
-          elim did [
-            | none nothing ends ↦ absurd (omega (arith, nothing, on.pending, waits))
-            | keeps grown some closed' grows' room_left leaves ↦
-                let is : grown ≡ q = one_growth meaning rows taken (known on (λ rs x. GrowsTo meaning rs x grown) grows') grows in
-                let count : after.study.ledger ≡ n + 1 = leaves.ledger ∙ ap (λ i. i + 1) on.ledger in (
-                  count,
-                  written q wide (leaves.ledger_list ∙ ap (put_slot at.ledger (at.study.ledger + 1)) is),
-                  record {
-                    rows_are = ap view leaves.table ∙ on.rows_are;
-                    runs = leaves.state;
-                    ledger = count;
-                    pending = leaves.pending ∙ ap (λ i. i - 1) on.pending;
-                    taken_is = refl;
-                    kept = next_kept;
-                  },
-                )
-            | keep_stops some closed' lacks ends ↦ absurd (omega (arith, lacks, on.ledger, left))
-            | finds f some opened lows found ends ↦ absurd (not_open on lows_of below lows)
-            | splits u some opened closed' grows' room_left enough leaves ↦ absurd (not_open on (λ x. x) closed opened)
-            | split_stops u some opened closed' grows' lacks ends ↦ absurd (not_open on (λ x. x) closed opened)
-          ]
+      does_keep q wide closed grows =
+          let leaves = goes (Keep q) (omega arith) (closed, grows) (omega (arith, left, on.ledger), omega (arith, (counted_fits room at on.runs).1)) in
+          let count : after.study.ledger ≡ n + 1 = leaves.ledger_count ∙ ap (λ i. i + 1) on.ledger in (
+            count,
+            written q wide leaves.ledger,
+            record {
+              rows_are = ap view leaves.table ∙ on.rows_are;
+              runs = leaves.state;
+              ledger = count;
+              pending = leaves.pending_count ∙ ap (λ i. i - 1) on.pending;
+              taken_is = refl;
+              kept = next_kept;
+            },
+          )
 
       -- it is open, and the list of its lows closed: the grown list goes to the ledger, and the pieces replace the range
       pub does_split : (u : Range) (ps : List Range) → Full u → EachFull ps → 1 ≤ length ps → Open meaning rows taken → Closed meaning rows (lows_of taken) → GrowsTo meaning rows (lows_of taken) u
           → pieces taken u (length rows) ≡ ps → m - 1 + length ps ≤ room.pending
           → (after.study.ledger ≡ n + 1) × (slot after.ledger (n + 1) ≡ u) × On rows room (n + 1) (m - 1 + length ps) (get_or ps (length ps - 1) u) after
       does_split u ps wide each any opens closed grows cut enough =
-          let divided : (v : Range) → GrowsTo meaning (rows_of at) (lows_of (taken_of at)) v → (v ≡ u) × (pieces (taken_of at) v (length (rows_of at)) ≡ ps) = λ v grows'.
-          let is : v ≡ u = one_growth meaning rows (lows_of taken) (known on (λ rs x. GrowsTo meaning rs (lows_of x) v) grows') grows in
-          (is, ap (pieces (taken_of at) v) (ap length on.rows_are) ∙ ap₂ (λ x w. pieces x w (length rows)) on.taken_is is ∙ cut) in
-          elim did [
-            | none nothing ends ↦ absurd (omega (arith, nothing, on.pending, waits))
-            | keeps grown some closed' grows' room_left leaves ↦ absurd (not_closed on (λ x. x) opens closed')
-            | keep_stops some closed' lacks ends ↦ absurd (not_closed on (λ x. x) opens closed')
-            | finds f some opened lows found ends ↦ absurd (not_open on lows_of closed lows)
-            | splits v some opened closed' grows' room_left enough' leaves ↦
-                let is = divided v grows' in
-                let count : after.study.ledger ≡ n + 1 = leaves.ledger ∙ ap (λ i. i + 1) on.ledger in
-                let waiting : after.study.pending ≡ m - 1 + length ps = leaves.pending ∙ ap₂ (λ i l. i - 1 + l) on.pending (ap length is.1) in
-                let last : after.study.pending ≡ m + (length ps - 1) = omega arith in
-                let fits : 64 * (m - 1 + length ps) ≤ length at.pending = omega (arith, (on.kept.runs room on.runs).long_pending) in
-                let list : after.pending ≡ put_slots at.pending m ps = leaves.pending_list ∙ ap₂ (put_slots at.pending) on.pending is.1 in (
-                  count,
-                  written u wide (leaves.ledger_list ∙ ap (put_slot at.ledger (at.study.ledger + 1)) is.0),
-                  record {
-                    rows_are = ap view leaves.table ∙ on.rows_are;
-                    runs = leaves.state;
-                    ledger = count;
-                    pending = waiting;
-                    taken_is = ap₂ slot list last ∙ put_slots_back ps at.pending m each waits fits (length ps - 1) u (omega arith);
-                    kept = next_kept;
-                  },
-                )
-            | split_stops v some opened closed' grows' lacks ends ↦
-                let is = divided v grows' in
-                let count = ap length is.1 in
-                absurd (elim lacks [ inl few ↦ omega (arith, few, on.ledger, left) | inr few ↦ omega (arith, few, on.pending, enough, count) ])
-          ]
+          let is : pieces_of at u ≡ ps = ap₂ (λ r (x : List Row). pieces r u (length x)) on.taken_is on.rows_are ∙ cut in
+          let pieced = ap length is in
+          let leaves = goes (Split u) (omega arith) (opens, closed, grows) (omega (arith, left, on.ledger), omega (arith, pieced, on.pending, enough)) in
+          let count : after.study.ledger ≡ n + 1 = leaves.ledger_count ∙ ap (λ i. i + 1) on.ledger in
+          let waiting : after.study.pending ≡ m - 1 + length ps = leaves.pending_count ∙ ap₂ (λ i l. i - 1 + l) on.pending pieced in
+          let last : after.study.pending ≡ m + (length ps - 1) = omega arith in
+          let fits : 64 * (m - 1 + length ps) ≤ length at.pending = omega (arith, (on.kept.runs room on.runs).long_pending) in
+          let list : after.pending ≡ put_slots at.pending m ps = leaves.pending ∙ ap₂ (put_slots at.pending) on.pending is in (
+            count,
+            written u wide leaves.ledger,
+            record {
+              rows_are = ap view leaves.table ∙ on.rows_are;
+              runs = leaves.state;
+              ledger = count;
+              pending = waiting;
+              taken_is = ap₂ slot list last ∙ put_slots_back ps at.pending m each waits fits (length ps - 1) u (omega arith);
+              kept = next_kept;
+            },
+          )

@@ -13,3 +13,6 @@ returns c =
 
 pub returns-in_err-add-3-clause-examples : goal.returns-in_err-add-3-clause-examples
 returns-in_err-add-3-clause-examples c = shown
+
+pub returns-in_err-add-2-clause-examples : goal.returns-in_err-add-2-clause-examples
+returns-in_err-add-2-clause-examples c = shown

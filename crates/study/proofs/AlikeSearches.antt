@@ -1,8 +1,7 @@
 -- Searches of the same rows, with the same room, end alike.
 use Rattle.std.proofs.Common.{◌≡◌, ℕ, ◌<◌, Ok, refl, sym, ap, subst, ◌∙◌, inl, inr, arith}
 use Rattle.std.proofs.lemmas.Bool.{cases_lt}
-use Rattle.bounds.specs.declared.overhead.Overhead.{Overhead}
-use Rattle.bounds.specs.declared.named.NamedTest.{NamedTest}
+use Rattle.bounds.specs.Questions.{Meaning, Laws}
 use Rattle.study.specs.declared.room.Room.{Room}
 use Rattle.study.specs.Counts.{verdicts}
 use Rattle.study.specs.Moments.{Moment, rows_of}
@@ -10,17 +9,16 @@ use Rattle.study.specs.Begins.{HasRoom, Begun, Begins}
 use Rattle.study.specs.Steps.{Runs, Stepped, Steps}
 use Rattle.study.specs.Searches.{Leads, begins, steps, Searched}
 use Rattle.study.proofs.Lawful.{room_of, KeepsAt, begin_accepted, step_accepted, ready}
-use Rattle.marking.specs.Reports.{board_answer}
-use Rattle.marking.proofs.Stays.{answer_laws, leads_table}
-use Rattle.marking.proofs.DeterminedMoments.{Alike, same_verdicts, same_running, step_alike, one_room, begun_alike}
+use Rattle.study.proofs.Led.{leads_kept}
+use Rattle.study.proofs.AlikeMoments.{Alike, same_verdicts, same_running, step_alike, one_room, begun_alike}
 
-module _ (t : Overhead NamedTest) (room : Room) where
+module _ (meaning : Meaning) (laws : Laws meaning) (room : Room) where
   -- a longer way comes by a moment with no verdict after each smaller count of steps
-  earlier : (before : Moment) (n : ℕ) {k : ℕ} {b : Moment} → Leads (board_answer t) room before k b → n < k → (m : Moment) × Leads (board_answer t) room before n m × (verdicts m.study.state ≡ 0)
+  earlier : (before : Moment) (n : ℕ) {k : ℕ} {b : Moment} → Leads meaning room before k b → n < k → (m : Moment) × Leads meaning room before n m × (verdicts m.study.state ≡ 0)
   earlier before n (begins begun) less = absurd (omega arith)
   earlier before n (steps {n = k} {m} leads going one) less = elim (cases_lt n k) [
     | inl before' ↦ earlier before n leads before'
-    | inr not_before ↦ let same : k ≡ n = omega arith in (m, subst (λ j. Leads (board_answer t) room before j m) same leads, going)
+    | inr not_before ↦ let same : k ≡ n = omega arith in (m, subst (λ j. Leads meaning room before j m) same leads, going)
   ]
 
   -- an accepted begin with this room
@@ -30,22 +28,22 @@ module _ (t : Overhead NamedTest) (room : Room) where
       subst (λ r. Begun r before after) (one_room before on.0 room on.1 has) on.2
 
   module _ (before before' : Moment) (has : HasRoom room before) (has' : HasRoom room before') (is : rows_of before ≡ rows_of before') where
-    keeps_at : {n : ℕ} {m : Moment} → Leads (board_answer t) room before n m → KeepsAt (board_answer t) m
-    keeps_at leads = (leads_table t room before has leads).1
+    keeps_at : {n : ℕ} {m : Moment} → Leads meaning room before n m → KeepsAt meaning m
+    keeps_at leads = (leads_kept meaning laws room before has leads).1
 
-    keeps_at' : {n : ℕ} {m : Moment} → Leads (board_answer t) room before' n m → KeepsAt (board_answer t) m
-    keeps_at' leads = (leads_table t room before' has' leads).1
+    keeps_at' : {n : ℕ} {m : Moment} → Leads meaning room before' n m → KeepsAt meaning m
+    keeps_at' leads = (leads_kept meaning laws room before' has' leads).1
 
-    next_alike : (m m' after after' : Moment) → KeepsAt (board_answer t) m → KeepsAt (board_answer t) m' → Alike m m' → Steps (board_answer t) m (Ok tt) after → Steps (board_answer t) m' (Ok tt) after' → Alike after after'
+    next_alike : (m m' after after' : Moment) → KeepsAt meaning m → KeepsAt meaning m' → Alike m m' → Steps meaning m (Ok tt) after → Steps meaning m' (Ok tt) after' → Alike after after'
     next_alike m m' after after' at at' was one one' =
-        let on = step_accepted (board_answer t) m after (ready (board_answer t) m at) one in
-        let on' = step_accepted (board_answer t) m' after' (ready (board_answer t) m' at') one' in
+        let on = step_accepted meaning m after (ready meaning m at) one in
+        let on' = step_accepted meaning m' after' (ready meaning m' at') one' in
         let runs' : Runs on.0 m' = same_running _ _ _ was.state on.0 on.1 in
         let same : on'.0 ≡ on.0 = ap (room_of on.0) (sym on'.1 ∙ runs') in
-        step_alike (board_answer t) (answer_laws t) on.0 m m' after after' at at' on.1 runs' was on.2 (subst (λ r. Stepped (board_answer t) r m' after') same on'.2)
+        step_alike meaning on.0 m m' at at' on.1 runs' was after after' on.2 (subst (λ r. Stepped meaning r m' after') same on'.2)
 
     -- as many steps lead to alike moments
-    leads_alike : {n k : ℕ} {a b : Moment} → Leads (board_answer t) room before n a → Leads (board_answer t) room before' k b → n ≡ k → Alike a b
+    leads_alike : {n k : ℕ} {a b : Moment} → Leads meaning room before n a → Leads meaning room before' k b → n ≡ k → Alike a b
     leads_alike (begins {after = a} begun) (begins {after = b} begun') same = begun_alike room before before' a b has has' is (begun_with before a has begun) (begun_with before' b has' begun')
     leads_alike (begins begun) (steps leads going one) same = absurd (omega (arith, same))
     leads_alike (steps leads going one) (begins begun) same = absurd (omega (arith, same))
@@ -56,7 +54,7 @@ module _ (t : Overhead NamedTest) (room : Room) where
     alike_verdicts a b was = same_verdicts _ _ _ was.state
 
     -- and both end after as many steps, since nothing goes on after a verdict
-    pub searched_alike : (a b : Moment) → Searched (board_answer t) room before a → Searched (board_answer t) room before' b → Alike a b
+    pub searched_alike : (a b : Moment) → Searched meaning room before a → Searched meaning room before' b → Alike a b
     searched_alike a b one two = elim (cases_lt one.count two.count) [
       | inl less ↦
           let at = earlier before' one.count two.leads less in
