@@ -16,7 +16,7 @@ use Rattle.marking.specs.Questions.{IsPaired}
 use Rattle.marking.specs.declared.report.Outcome.{Outcome}
 use Rattle.marking.specs.declared.report.Outcome.TheVariants as outcome
 use Rattle.marking.specs.Reports.{SameOutcome, AnswerOf, OutcomeOf}
-use Rattle.marking.proofs.Answered.{nth_taken}
+use Rattle.study.proofs.Standing.{nth_taken}
 use Rattle.marking.proofs.Claimed.{one_row}
 use Rattle.marking.proofs.DeterminedSheets.{SameSheet, same_field}
 use Rattle.marking.proofs.DeterminedCases.{same_number, same_count}

@@ -15,6 +15,7 @@ use Rattle.sheets.specs.declared.sheet.Sheet.{Sheet}
 use Rattle.sheets.specs.Pairs.{count_of, task_of}
 use Rattle.marking.specs.declared.report.Report.{Report}
 use Rattle.study.specs.Searches.{Searched}
+use Rattle.marking.proofs.Stays.{answer_laws}
 use Rattle.marking.proofs.Stays.{last_rows}
 use Rattle.table.proofs.View.{few_rows}
 use Rattle.bounds.specs.Orders.{FirstMiss}

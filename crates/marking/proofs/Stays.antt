@@ -36,7 +36,7 @@ answer_laws = over_laws named_laws
 module _ (t : Overhead NamedTest) where
   module _ (before after : Study) (search : SearchedTo t before after) where
     same_table : after.table ≡ before.table
-    same_table = ap (λ (s : Study). s.table) (sym search.ends) ∙ (leads_kept (board_answer t) (answer_laws t) search.room search.first search.searched.leads).0 ∙ ap (λ (s : Study). s.table) search.begins
+    same_table = ap (λ (s : Study). s.table) (sym search.ends) ∙ (leads_kept (board_answer t) (answer_laws t) _ search.first search.room search.searched.leads).0 ∙ ap (λ (s : Study). s.table) search.begins
 
     pub last_rows : rows_of search.last ≡ view before.table
     last_rows = ap (λ (s : Study). view s.table) search.ends ∙ ap (λ (u : Table). view u) same_table
