@@ -14,7 +14,7 @@ use Rattle.sheets.specs.declared.form.Form.TheVariants.{Board, Tasks, Answer}
 use Rattle.sheets.specs.declared.sheet.Sheet.{Sheet}
 use Rattle.sheets.specs.Pairs.{count_of, task_of}
 use Rattle.marking.specs.declared.report.Report.{Report}
-use Rattle.study.specs.Searches.{Searched}
+use Rattle.study.specs.Searches.{ToVerdict}
 use Rattle.marking.proofs.Stays.{answer_laws}
 use Rattle.marking.proofs.Stays.{last_rows}
 use Rattle.table.proofs.View.{few_rows}
@@ -98,7 +98,7 @@ module _ (x y z : List ℕ) (r q : Report) (one : Marked x y z r) (two : Marked 
       let search' = two.reports.searched in
       let rows : rows_of search.first ≡ rows_of search'.first = ap (λ (s : Study). view s.table) search.begins ∙ same_rows ∙ sym (ap (λ (s : Study). view s.table) search'.begins) in
       searched_alike (board_answer one.test) (answer_laws one.test) slots search.first search'.first search.room search'.room rows search.last search'.last search.searched
-      (subst (λ t. Searched (board_answer t) slots search'.first search'.last) (sym same_test) search'.searched)
+      (subst (λ t. ToVerdict (board_answer t) slots search'.first search'.last) (sym same_test) search'.searched)
 
   -- what two reports on three texts show of the search is the same
   pub same_shown : SameShown r q

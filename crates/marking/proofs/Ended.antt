@@ -8,8 +8,8 @@ use Rattle.study.specs.declared.study.Study.{Study}
 use Rattle.study.specs.declared.room.Room.{Room}
 use Rattle.study.specs.Moments.{moment}
 use Rattle.study.specs.Begins.{HasRoom}
-use Rattle.study.specs.Histories.{Since, History, Means}
-use Rattle.study.specs.Searches.{Searched, Searches, SearchPromise}
+use Rattle.study.specs.Histories.{Tally, History, Means}
+use Rattle.study.specs.Searches.{ToVerdict, Searches, SearchPromise}
 use Rattle.marking.specs.Reports.{board_answer, HasHistory, SearchedTo, slots}
 
 slots_are : (room : Room) (l p : List ℕ) (s : Study) → length l ≡ 6144 → length p ≡ 6144 → HasRoom room (moment s l p) → room ≡ slots
@@ -22,7 +22,7 @@ pub has_slots : (l p : List ℕ) (s : Study) → length l ≡ 6144 → length p 
 has_slots l p s ll pp = ((omega arith, omega arith, ll), (omega arith, omega arith, pp))
 
 module _ (t : Overhead NamedTest) (s after : Study) (l p l' p' : List ℕ) (r : Result (Unit {0}) Fault) (ll : length l ≡ 6144) (pp : length p ≡ 6144) (searches : Searches (board_answer t) (moment s l p) r (moment after l' p')) (row : 1 ≤ length (view s.table)) where
-  pub search_ended : IfOk r (λ _. Means (board_answer t) (moment after l' p')) → ((x y : List ℕ) (c : Since) → History (board_answer t) (moment s x y) c → SearchPromise (board_answer t) (moment s l p) (moment after l' p') x y c r) → HasHistory s → (r ≡ Ok tt) × SearchedTo t s after
+  pub search_ended : IfOk r (λ _. Means (board_answer t) (moment after l' p')) → ((x y : List ℕ) (c : Tally) → History (board_answer t) (moment s x y) c → SearchPromise (board_answer t) (moment s l p) r (moment after l' p') x y c) → HasHistory s → (r ≡ Ok tt) × SearchedTo t s after
   search_ended means promise history =
       let has = has_slots l p s ll pp in
       let on = (searches.1 row).1 (slots, has) in
@@ -36,7 +36,7 @@ module _ (t : Overhead NamedTest) (s after : Study) (l p l' p' : List ℕ) (r : 
           begins = refl;
           ends = refl;
           room = has;
-          searched = subst (λ room. Searched (board_answer t) room (moment s l p) (moment after l' p')) (slots_are on.0 l p s ll pp on.1) on.3;
+          searched = subst (λ room. ToVerdict (board_answer t) room (moment s l p) (moment after l' p')) (slots_are on.0 l p s ll pp on.1) on.3;
           means = subst (λ x. IfOk x (λ _. Means (board_answer t) (moment after l' p'))) accepted means;
           few = omega (arith, kept.0.bounded, ap (λ n. n / 64) ll);
         },

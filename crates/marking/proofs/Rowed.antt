@@ -16,7 +16,7 @@ use Rattle.table.proofs.Placed.{nth_at, nth_next}
 use Rattle.study.specs.declared.study.Study.{Study}
 use Rattle.study.specs.declared.edit.Edit.TheVariants.{Add}
 use Rattle.study.specs.Calls.{IsNew, Edits}
-use Rattle.study.specs.Histories.{start, edit, none_begun, other}
+use Rattle.study.specs.Histories.{new_study, any_edit, nothing_counted, no_more}
 use Rattle.sheets.specs.declared.sheet.Sheet.{Sheet}
 use Rattle.sheets.specs.Pairs.{EachLine}
 use Rattle.sheets.proofs.Paired.{each_more}
@@ -64,7 +64,7 @@ pub none_yet : (tasks : Sheet) (rows : List Row) → rows ≡ [] → RowsOf task
 none_yet tasks rows is = record { size = ap length is; each = λ k low high. absurd (omega arith) }
 
 pub new_history : (s : Study) → IsNew s → HasHistory s
-new_history s new t l p = (none_begun, start s l p new)
+new_history s new t l p = (nothing_counted, new_study s l p new)
 
 nth_kept : (rows : List Row) (new : Row) (k : ℕ) → 1 ≤ k → k ≤ length rows → nth (rows ++ new ∷ []) k filler ≡ nth rows k filler
 nth_kept rows new k low high = nth_at (rows ++ new ∷ []) k filler low ∙ get_or_append_left rows (new ∷ []) filler _ (omega arith) ∙ sym (nth_at rows k filler low)
@@ -102,4 +102,4 @@ module _ (tasks : Sheet) (i : ℕ) (few : i < 32) (s after : Study) (n : Numbers
     rows_more = let new = added.1 in one_more_row tasks i (view s.table) new.0 rows (subst (Of new.0) is new.1) (view after.table) new.2
 
   pub history_more : HasHistory s → HasHistory after
-  history_more history t l q = let h = history t l q in (other h.0, edit h.1 (Add n) r after edits)
+  history_more history t l q = let h = history t l q in (no_more h.0, any_edit h.1 (Add n) r after edits)

@@ -20,8 +20,8 @@ use Rattle.study.specs.declared.room.Room.{Room}
 use Rattle.study.specs.Counts.{finding_in}
 use Rattle.study.specs.Moments.{Moment, moment}
 use Rattle.study.specs.Begins.{HasRoom}
-use Rattle.study.specs.Histories.{Since, History, Means}
-use Rattle.study.specs.Searches.{Searched}
+use Rattle.study.specs.Histories.{Tally, History, Means}
+use Rattle.study.specs.Searches.{ToVerdict}
 use Rattle.sheets.specs.declared.form.Column.TheVariants.{Estimate}
 use Rattle.sheets.specs.declared.sheet.Sheet.{Sheet}
 use Rattle.sheets.specs.declared.form.Form.TheVariants.{Board, Tasks, Answer}
@@ -46,7 +46,7 @@ pub record RowsOf (tasks : Sheet) (n : ℕ) (rows : List Row) : Type 0 where
 
 -- a study that calls have led to, under any test and with any lists
 abbrev pub HasHistory : Study → Type 0
-HasHistory s = (t : Overhead NamedTest) (ledger pending : List ℕ) → (c : Since) × History (board_answer t) (moment s ledger pending) c
+HasHistory s = (t : Overhead NamedTest) (ledger pending : List ℕ) → (c : Tally) × History (board_answer t) (moment s ledger pending) c
 
 -- the estimate in the k-th value line of the answer is that of the row in the order's k-th place
 abbrev pub EstimatesOf : Sheet → List ℕ → List ℕ → ℕ → Type 0
@@ -63,7 +63,7 @@ pub record SearchedTo (t : Overhead NamedTest) (before after : Study) : Type 0 w
   pub begins : first.study ≡ before
   pub ends : last.study ≡ after
   pub room : HasRoom slots first
-  pub searched : Searched (board_answer t) slots first last
+  pub searched : ToVerdict (board_answer t) slots first last
   pub means : Means (board_answer t) last
   pub few : after.steps ≤ 97
 
@@ -100,7 +100,7 @@ LevelsIn tasks s n names estimates = MatchOption (finding_in s) (n ≡ 0) (λ f.
 -- the report shows a study once it is searched: its verdict, its counts and its levels
 pub record ShowsStudy (tasks : Sheet) (s : Study) (r : Report) : Type 0 where
   pub verdict : r.verdict ≡ verdict_of s.state
-  pub ranges : r.ranges ≡ s.ledger
+  pub ranges : r.ranges ≡ s.ledger_count
   pub steps : r.steps ≡ s.steps
   pub levels : LevelsIn tasks s.state r.levels (names_of r) r.estimates
 

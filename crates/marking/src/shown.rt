@@ -94,7 +94,7 @@ pub(crate) fn report_of<'a>(tasks: &Sheet<'a>, study: &Study, outcome: Outcome<'
     let levels = levels_in(tasks, study.state());
     Report {
         verdict: verdict_of(study.state()),
-        ranges: study.ledger(),
+        ranges: study.ledger_count(),
         steps: study.steps(),
         levels: levels.count,
         tasks: levels.names,

@@ -58,5 +58,5 @@ counted_prop : (st : State) (l p n : ℕ) → IsProp (Counted st l p n)
 counted_prop st l p n = Prim.hlevel props
 
 -- a study with the same table is the same
-pub same_study : (s : Study) (t : Table) (counted : Counted s.state s.ledger s.pending s.steps) → t ≡ s.table → ◌≡◌ {A = Study} (record { table = t; state = s.state; ledger = s.ledger; pending = s.pending; steps = s.steps; counted = counted }) s
-same_study s t counted same = λ i. record { table = same i; state = s.state; ledger = s.ledger; pending = s.pending; steps = s.steps; counted = counted_prop s.state s.ledger s.pending s.steps counted s.counted i }
+pub same_study : (s : Study) (t : Table) (counted : Counted s.state s.ledger_count s.pending_count s.steps) → t ≡ s.table → ◌≡◌ {A = Study} (record { table = t; state = s.state; ledger_count = s.ledger_count; pending_count = s.pending_count; steps = s.steps; counted = counted }) s
+same_study s t counted same = λ i. record { table = same i; state = s.state; ledger_count = s.ledger_count; pending_count = s.pending_count; steps = s.steps; counted = counted_prop s.state s.ledger_count s.pending_count s.steps counted s.counted i }

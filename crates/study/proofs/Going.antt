@@ -9,13 +9,13 @@ use Rattle.study.specs.Counts.{verdicts}
 use Rattle.study.specs.Slots.{HasSlots}
 use Rattle.study.specs.Moments.{Moment, moment, rows_of}
 use Rattle.study.specs.Begins.{HasRoom, Begins}
-use Rattle.study.specs.Steps.{Runs, Stepped, Steps}
-use Rattle.study.specs.Histories.{Since, other, Promise, History, begin, no_begin, step}
-use Rattle.study.specs.Searches.{Leads, begins, steps, Searches, SearchPromise}
+use Rattle.study.specs.Steps.{Runs, OneDeed, Steps}
+use Rattle.study.specs.Histories.{Tally, no_more, Promise, History, accepted_begin, refused_begin, accepted_step}
+use Rattle.study.specs.Searches.{Leads, at_begin, one_on, Searches, SearchPromise}
 use Rattle.study.proofs.Lawful.{room_of, KeepsAt, Told, begun_keeps, told_begun, stepped_keeps, told_stepped, begin_accepted, step_accepted, counted_running, after_step, ok≢err, ready, law}
 
-abbrev since_at : Room → ℕ → Bool → Since
-since_at room n stepped = record { slots = room.ledger; steps = n; stepped = stepped }
+abbrev since_at : Room → ℕ → Bool → Tally
+since_at room n stepped = record { ledger_slots = room.ledger; accepted_steps = n; last_was_step = stepped }
 
 module _ (meaning : Meaning) where
   -- n accepted steps after the accepted begin: what is kept, and that every history to the beginning leads here
@@ -27,7 +27,7 @@ module _ (meaning : Meaning) where
     pub told : Told m (since_at room count stepped)
     pub same : count ≡ m.study.steps
     pub alive : (Runs room m) ⊎ ((verdicts m.study.state ≡ 1) × (stepped ≡ true))
-    pub past : (l p : List ℕ) (c : Since) → History meaning (moment before.study l p) c → History meaning m (since_at room count stepped)
+    pub past : (l p : List ℕ) (c : Tally) → History meaning (moment before.study l p) c → History meaning m (since_at room count stepped)
 
   pub going_begun : (room : Room) (before after : Moment) → HasRoom room before → Begins before (Ok tt) after → (r : Room) × HasRoom r before × Going r before after
   going_begun room before after has begun =
@@ -37,12 +37,12 @@ module _ (meaning : Meaning) where
         record {
           count = 0;
           stepped = false;
-          leads = begins begun;
+          leads = at_begin begun;
           at = begun_keeps meaning on.0 before after on.1 on.2;
           told = told_begun on.0 after on.0.ledger refl on.2.state on.2.steps;
           same = sym on.2.steps;
           alive = inl on.2.state;
-          past = λ l p c h. begin h before.ledger before.pending after on.0 on.1 begun;
+          past = λ l p c h. accepted_begin h before.ledger before.pending after on.0 on.1 begun;
         },
       )
 
@@ -55,11 +55,11 @@ module _ (meaning : Meaning) where
     pub not_refused : (e : Fault) → Steps meaning m (Err e) after → ⊥
     not_refused e asked = let on = asked.1 (room, runs) in ok≢err e (sym (on.2.1 (ready meaning m going.at on.0 on.1)).0)
 
-    did_step : Steps meaning m (Ok tt) after → Stepped meaning room m after
+    did_step : Steps meaning m (Ok tt) after → OneDeed meaning room m after
     did_step took =
         let on = step_accepted meaning m after (ready meaning m going.at) took in
         let room_is : on.0 ≡ room = ap (room_of room) (sym on.1 ∙ runs) in
-        subst (λ r. Stepped meaning r m after) room_is on.2
+        subst (λ r. OneDeed meaning r m after) room_is on.2
 
     -- a step counts one more, of at most 4,097
     pub step_counts : Steps meaning m (Ok tt) after → (after.study.steps ≡ m.study.steps + 1) × (m.study.steps ≤ 4096)
@@ -71,12 +71,12 @@ module _ (meaning : Meaning) where
         record {
           count = going.count + 1;
           stepped = true;
-          leads = steps going.leads (ap verdicts runs) took;
+          leads = one_on going.leads (ap verdicts runs) took;
           at = stepped_keeps meaning laws room m going.at runs after did;
           told = told_stepped room m after (since_at room going.count going.stepped) going.told runs did;
           same = omega (arith, going.same, did.leaves.steps);
           alive = elim (after_step did) [ inl on_it ↦ inl on_it | inr verdict ↦ inr (verdict, refl) ];
-          past = λ l p c h. step (going.past l p c h) after took;
+          past = λ l p c h. accepted_step (going.past l p c h) after took;
         }
 
   module _ (room : Room) (before m : Moment) (going : Going room before m) (over : ((r : Room) × Runs r m) → ⊥) where
@@ -90,13 +90,13 @@ module _ (meaning : Meaning) where
       λ _. (λ bad. absurd (bad (room, has)), λ _. (room, has, refl, record { count = going.count; leads = going.leads; bounded = going.told.bounded; ends = ended.0 })),
     )
 
-    pub promise_ended : (laws : Laws meaning) → HasRoom room before → (l p : List ℕ) (c : Since) → History meaning (moment before.study l p) c → SearchPromise meaning before m l p c (Ok tt)
+    pub promise_ended : (laws : Laws meaning) → HasRoom room before → (l p : List ℕ) (c : Tally) → History meaning (moment before.study l p) c → SearchPromise meaning before (Ok tt) m l p c
     promise_ended laws has l p c h =
         let slots : room.ledger ≡ length before.ledger / 64 = omega (arith, has.0.2) in
         let promise = law meaning laws m (since_at room going.count going.stepped) (going.past l p c h) in (
-          subst (λ n. Promise meaning m (record { slots = n; steps = m.study.steps; stepped = true })) slots
-              (subst (λ n. Promise meaning m (record { slots = room.ledger; steps = n; stepped = true })) going.same
-              (subst (λ b. Promise meaning m (record { slots = room.ledger; steps = going.count; stepped = b })) ended.1 promise)),
+          subst (λ n. Promise meaning m (record { ledger_slots = n; accepted_steps = m.study.steps; last_was_step = true })) slots
+              (subst (λ n. Promise meaning m (record { ledger_slots = room.ledger; accepted_steps = n; last_was_step = true })) going.same
+              (subst (λ b. Promise meaning m (record { ledger_slots = room.ledger; accepted_steps = going.count; last_was_step = b })) ended.1 promise)),
           tt,
         )
 
@@ -107,10 +107,10 @@ module _ (meaning : Meaning) where
     λ some. ((refused.1 some).0, λ q. absurd (ok≢err e (sym ((refused.1 some).1 q).2))),
   )
 
-  pub promise_refused : (laws : Laws meaning) (before after : Moment) (e : Fault) → Begins before (Err e) after → (l p : List ℕ) (c : Since) → History meaning (moment before.study l p) c → (r : Result (Unit {0}) Fault) → IsErr r → SearchPromise meaning before after l p c r
+  pub promise_refused : (laws : Laws meaning) (before after : Moment) (e : Fault) → Begins before (Err e) after → (l p : List ℕ) (c : Tally) → History meaning (moment before.study l p) c → (r : Result (Unit {0}) Fault) → IsErr r → SearchPromise meaning before r after l p c
   promise_refused laws before after e refused l p c h (Ok x) err = absurd (false≢true err)
   promise_refused laws before after e refused l p c h (Err x) err =
-      (tt, law meaning laws (moment after.study l p) (other c) (no_begin h before.ledger before.pending after e refused))
+      (tt, law meaning laws (moment after.study l p) (no_more c) (refused_begin h before.ledger before.pending after e refused))
 
 -- whether a list has whole slots
 has_slots : (list : List ℕ) → ((n : ℕ) × HasSlots list n) ⊎ (((n : ℕ) × HasSlots list n) → ⊥)

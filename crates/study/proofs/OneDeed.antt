@@ -13,7 +13,7 @@ use Rattle.study.specs.declared.state.State.{State}
 use Rattle.study.specs.declared.state.State.TheVariants as state
 use Rattle.study.specs.declared.deed.Deed.{Deed}
 use Rattle.study.specs.declared.deed.Deed.TheVariants.{End, Keep, Split}
-use Rattle.study.specs.Deeds.{lows_of, Finds, CallsFor}
+use Rattle.study.specs.Deeds.{lows_of, Finds, Due}
 use Rattle.study.specs.Moments.{Moment, rows_of}
 use Rattle.study.specs.Steps.{taken_of, left_by, Fits, Does, none, does, stops}
 use Rattle.study.proofs.Standing.{nth_taken}
@@ -52,7 +52,7 @@ module _ (meaning : Meaning) (rows : List Row) (taken : Range) (within : Within 
         estimates = a.1 ∙ sym b.1;
       }
 
-  pub one_deed : (d e : Deed) → CallsFor meaning rows taken d → CallsFor meaning rows taken e → SameDeed (length rows) d e
+  pub one_deed : (d e : Deed) → Due meaning rows taken d → Due meaning rows taken e → SameDeed (length rows) d e
   one_deed (End s) (End u) a b =
       let f = a.2.0 in
       let g = b.2.0 in
@@ -67,13 +67,13 @@ module _ (meaning : Meaning) (rows : List Row) (taken : Range) (within : Within 
   one_deed (Split u) (Keep q) a b = absurd (clash taken b.0 a.0)
   one_deed (Split u) (Split v) a b = subst (λ x. SameDeed (length rows) (Split u) (Split x)) (one_growth meaning rows (lows_of taken) a.2 b.2) (same_deed (Split u))
 
-module _ (meaning : Meaning) (room : Room) (before : Moment) (within : Within (rows_of before) (taken_of before)) (some : 1 ≤ before.study.pending) where
+module _ (meaning : Meaning) (room : Room) (before : Moment) (within : Within (rows_of before) (taken_of before)) (some : 1 ≤ before.study.pending_count) where
   fits_too : (d e : Deed) → SameDeed (length (rows_of before)) d e → Fits room (left_by room before e) → Fits room (left_by room before d)
   fits_too d e (same_deed x) fits = fits
   fits_too d e (other_places f g both) fits = fits
 
   -- what the last pending range calls for is done, where both lists have the slots
-  pub called_done : (d e : Deed) → CallsFor meaning (rows_of before) (taken_of before) e → Fits room (left_by room before e) → Does meaning room before d → SameDeed (length (rows_of before)) d e
+  pub called_done : (d e : Deed) → Due meaning (rows_of before) (taken_of before) e → Fits room (left_by room before e) → Does meaning room before d → SameDeed (length (rows_of before)) d e
   called_done d e calls fits (none nothing) = absurd (omega (arith, nothing, some))
   called_done d e calls fits (does x some' calls' fits') = one_deed meaning (rows_of before) (taken_of before) within x e calls' calls
   called_done d e calls fits (stops x some' calls' lacks) = absurd (lacks (fits_too x e (one_deed meaning (rows_of before) (taken_of before) within x e calls' calls) fits))

@@ -20,21 +20,26 @@ finding_in (state.Found finding) = Some finding
 finding_in state.None = None
 finding_in state.Stopped = None
 
--- how many slots of each list may be counted: none in a draft, those that the list has while a search runs, and up to 4,096 once there is a verdict
-abbrev pub ledger_slots : State → ℕ
-ledger_slots state.Draft = 0
-ledger_slots (state.Running room) = room.ledger
-ledger_slots (state.Found finding) = 4096
-ledger_slots state.None = 4096
-ledger_slots state.Stopped = 4096
+-- How many slots of each list may be counted: none in a draft, those that the list has while a search
+-- runs, and up to 4,096 once there is a verdict.
+abbrev pub ledger_room : State → ℕ
+ledger_room state.Draft = 0
+ledger_room (state.Running room) = room.ledger
+ledger_room (state.Found finding) = 4096
+ledger_room state.None = 4096
+ledger_room state.Stopped = 4096
 
-abbrev pub pending_slots : State → ℕ
-pending_slots state.Draft = 0
-pending_slots (state.Running room) = room.pending
-pending_slots (state.Found finding) = 4096
-pending_slots state.None = 4096
-pending_slots state.Stopped = 4096
+abbrev pub pending_room : State → ℕ
+pending_room state.Draft = 0
+pending_room (state.Running room) = room.pending
+pending_room (state.Found finding) = 4096
+pending_room state.None = 4096
+pending_room state.Stopped = 4096
 
--- the counted slots are among these, and the steps are as many as the counted ledger slots, and one more if there is a verdict
+-- The counted slots are among these, and the steps are as many as the counted ledger slots, and one
+-- more if there is a verdict.
 abbrev pub Counted : State → ℕ → ℕ → ℕ → Type 0
-Counted s ledger pending steps = (ledger ≤ ledger_slots s) × (ledger_slots s ≤ 4096) × (pending ≤ pending_slots s) × (pending_slots s ≤ 4096) × (steps ≡ ledger + verdicts s)
+Counted now ledger_count pending_count steps =
+    (ledger_count ≤ ledger_room now) × (ledger_room now ≤ 4096)
+    × (pending_count ≤ pending_room now) × (pending_room now ≤ 4096)
+    × (steps ≡ ledger_count + verdicts now)

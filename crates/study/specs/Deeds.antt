@@ -1,6 +1,7 @@
--- What the last pending range calls for.
+-- What is due of the last pending range.
 use Rattle.std.specs.Prelude.{◌≡◌, List, length, Some}
 use Rattle.table.specs.declared.row.Row.{Row}
+use Rattle.bounds.specs.Questions.{Meaning}
 use Rattle.orders.specs.declared.range.Range.{Range}
 use Rattle.orders.specs.Ranges.{Open, Closed}
 use Rattle.orders.specs.Assigner.{Assigns}
@@ -9,7 +10,6 @@ use Rattle.study.specs.declared.finding.Finding.{Finding}
 use Rattle.study.specs.declared.state.State.TheVariants as state
 use Rattle.study.specs.declared.deed.Deed.{Deed}
 use Rattle.study.specs.declared.deed.Deed.TheVariants.{End, Keep, Split}
-use Rattle.bounds.specs.Questions.{Meaning}
 
 -- the list of a range's lows, as a range
 abbrev pub lows_of : Range → Range
@@ -22,13 +22,16 @@ module _ (meaning : Meaning) (rows : List Row) where
 
   -- the assigner's order for the list of a range's lows, and these lows
   abbrev pub Finds : Range → Finding → Type 0
-  Finds taken f = Assigns meaning rows (lows_of taken) (Some f.order) × (f.estimates ≡ taken.lows)
+  Finds taken finding =
+      Assigns meaning rows (lows_of taken) (Some finding.order) × (finding.estimates ≡ taken.lows)
 
-  -- What a range calls for, the first of these that applies: it is closed, and its grown form is kept; the list of its lows is open, and the search ends with that list's order; or that list is grown, and the range split by it.
-  abbrev pub CallsFor : Range → Deed → Type 0
-  CallsFor taken (Keep grown) = Closed meaning rows taken × GrowsTo taken grown
-  CallsFor taken (End verdict) =
+  -- What is due of a range, the first of these that applies: it is closed, and its grown form is
+  -- kept; the list of its lows is open, and the search ends with that list's order; or that list is
+  -- grown, and the range split by it.
+  abbrev pub Due : Range → Deed → Type 0
+  Due taken (Keep grown) = Closed meaning rows taken × GrowsTo taken grown
+  Due taken (End verdict) =
       Open meaning rows taken × Open meaning rows (lows_of taken)
-      × ((f : Finding) × (verdict ≡ state.Found f) × Finds taken f)
-  CallsFor taken (Split u) =
-      Open meaning rows taken × Closed meaning rows (lows_of taken) × GrowsTo (lows_of taken) u
+      × ((finding : Finding) × (verdict ≡ state.Found finding) × Finds taken finding)
+  Due taken (Split grown) =
+      Open meaning rows taken × Closed meaning rows (lows_of taken) × GrowsTo (lows_of taken) grown

@@ -11,8 +11,8 @@ pub record Moment : Type 0 where
   pub pending : List ℕ
 
 abbrev pub moment : Study → List ℕ → List ℕ → Moment
-moment s l p = record { study = s; ledger = l; pending = p }
+moment study ledger pending = record { study = study; ledger = ledger; pending = pending }
 
 -- the rows of its table
 abbrev pub rows_of : Moment → List Row
-rows_of m = view m.study.table
+rows_of now = view now.study.table

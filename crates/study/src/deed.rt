@@ -21,12 +21,12 @@ pub enum Deed {
 }
 
 impl Deed {
-    ghost use Rattle.study.specs.Deeds.{CallsFor};
+    ghost use Rattle.study.specs.Deeds.{Due};
 
-    // What a range of the table calls for.
+    // What is due of a range of the table.
     pub(crate) fn new<T: Test>(test: &T, table: &Table, taken: &Range) -> Deed
         requires { Within (view table.now) taken.now }
-        ensures { CallsFor (T.answer test.now) (view table.now) taken.now result }
+        ensures { Due (T.answer test.now) (view table.now) taken.now result }
     {
         if let Settled::Grown(grown) = settle(test, table, taken) {
             return Deed::Keep(grown);

@@ -1,7 +1,7 @@
 // A table, and how far the search for an order of it has come. The ledger and the pending list are the caller's.
-ghost use Rattle.std.specs.Prelude.{◌≡◌, ℕ, ◌+◌, ◌-◌, ◌*◌, ◌<◌, ◌≤◌, ◌⊎◌, ◌↔◌, List, length, Ok, IfOk, IfErr, IsTrue, MatchOption};
+ghost use Rattle.std.specs.Prelude.{◌≡◌, ℕ, ◌+◌, ◌-◌, ◌*◌, ◌<◌, ◌≤◌, ◌⊎◌, ◌↔◌, List, length, IfOk, IfErr, IsTrue, MatchOption};
 ghost use Rattle.table.specs.declared.fault.Fault.TheVariants.{OtherLists};
-ghost use Rattle.table.specs.Asking.{Asks, Refuses};
+ghost use Rattle.table.specs.Asking.{Asks, Refuses, accepted};
 ghost use Rattle.table.specs.Rows.{view, Adds, Alters, Removes};
 ghost use Rattle.bounds.specs.Questions.{Meaning, Laws};
 ghost use Rattle.study.specs.declared.room.Room.{Room as OneRoom};
@@ -26,10 +26,10 @@ use table::{Fault, Numbers, Table};
 pub struct Study {
     table: Table,
     state: State,
-    ledger: usize,
-    pending: usize,
+    ledger_count: usize,
+    pending_count: usize,
     steps: usize,
-    ghost counted: { Counted state ledger pending steps },
+    ghost counted: { Counted state ledger_count pending_count steps },
 }
 
 // A new study, and what can be read of one.
@@ -43,8 +43,8 @@ impl Study {
         Study {
             table: Table::new(),
             state: State::Draft,
-            ledger: 0,
-            pending: 0,
+            ledger_count: 0,
+            pending_count: 0,
             steps: 0,
         }
     }
@@ -64,17 +64,17 @@ impl Study {
     }
 
     /// How many ledger slots are counted.
-    pub fn ledger(&self) -> usize
-        ensures { result ≡ self.now.ledger }
+    pub fn ledger_count(&self) -> usize
+        ensures { result ≡ self.now.ledger_count }
     {
-        self.ledger
+        self.ledger_count
     }
 
     /// How many pending slots are counted.
-    pub fn pending(&self) -> usize
-        ensures { result ≡ self.now.pending }
+    pub fn pending_count(&self) -> usize
+        ensures { result ≡ self.now.pending_count }
     {
-        self.pending
+        self.pending_count
     }
 
     /// The step count: how many steps were taken since the last accepted begin, and 0 in a draft.
@@ -96,8 +96,8 @@ impl Study {
         ensures table { self.new.table ≡ self.old.table }
     {
         self.state = State::Draft;
-        self.ledger = 0;
-        self.pending = 0;
+        self.ledger_count = 0;
+        self.pending_count = 0;
         self.steps = 0;
     }
 
@@ -149,7 +149,7 @@ impl Study {
 // The begin of a search.
 impl Study {
     ghost use Rattle.study.specs.Begins.{Begins};
-    ghost use Rattle.study.specs.Histories.{Since, History, BeginPromise};
+    ghost use Rattle.study.specs.Histories.{FromEach, BeginPromise};
     ghost use Rattle.study.specs.Moments.{moment};
 
     /// Begins a search: the range of all C to D is written into pending slot 1. Refused where the table has no
@@ -160,8 +160,8 @@ impl Study {
             Begins lent result (moment self.new ledger.new pending.new) }
         ensures promise { let lent = moment self.old ledger.old pending.old in
             let after = moment self.new ledger.new pending.new in
-            (meaning : Meaning) (l p : List ℕ) (c : Since) → Laws meaning → History meaning (moment self.old l p) c →
-            BeginPromise meaning lent after l p c result }
+            (meaning : Meaning) → Laws meaning
+            → FromEach meaning self.old (BeginPromise meaning lent result after) }
     {
         let rows = self.table.rows();
         if rows.is_empty() {
@@ -171,7 +171,7 @@ impl Study {
         write_slot(pending, 1, &whole_range(rows));
         self.redraft();
         self.state = State::Running(room);
-        self.pending = 1;
+        self.pending_count = 1;
         Ok(())
     }
 }
@@ -180,14 +180,15 @@ impl Study {
 impl Study {
     ghost use Rattle.study.specs.Moments.{moment};
     ghost use Rattle.study.specs.declared.deed.Deed.TheVariants as deed;
-    ghost use Rattle.study.specs.Steps.{AsLeft, CarriesOut, Leaves, Runs, Stepped, left_by, recorded, taken_of};
+    ghost use Rattle.study.specs.Steps.{AsLeft, CarriesOut, Leaves, OneDeed, Runs, left_by, recorded, taken_of};
 
     // Ends a search with a verdict.
     fn end(&mut self, room: Room, verdict: State)
         requires runs { self.old.state ≡ state.Running room }
         requires verdict { verdicts verdict ≡ 1 }
-        ensures { (l p : List ℕ) → let m = moment self.old l p in
-            Leaves m (left_by room m (deed.End verdict)) (moment self.new l p) }
+        ensures { (kept waiting : List ℕ) → let before = moment self.old kept waiting in
+            Leaves before (left_by room before (deed.End verdict))
+            (moment self.new kept waiting) }
     {
         self.state = verdict;
         self.steps += 1;
@@ -197,17 +198,24 @@ impl Study {
     fn record(&mut self, room: Room, range: &Range, ledger: &mut [u32], pending: usize)
         requires runs { self.old.state ≡ state.Running room }
         requires long { length ledger.old ≡ 64 * room.ledger }
-        requires left { (self.old.ledger < room.ledger) × (pending ≤ room.pending) }
-        ensures { (p q : List ℕ) → let m = moment self.old ledger.old p in
-            Leaves m (record { state = state.Running room; ledger_count = self.old.ledger + 1; pending_count = pending; ledger = recorded m range.now; pending = q }) (moment self.new ledger.new q) }
+        requires left { (self.old.ledger_count < room.ledger) × (pending ≤ room.pending) }
+        ensures { (kept left : List ℕ) → let before = moment self.old ledger.old kept in
+            Leaves before (record {
+                state = state.Running room;
+                ledger_count = self.old.ledger_count + 1;
+                pending_count = pending;
+                ledger = recorded before range.now;
+                pending = left
+            }) (moment self.new ledger.new left) }
     {
-        write_slot(ledger, self.ledger + 1, range);
-        self.ledger += 1;
-        self.pending = pending;
+        write_slot(ledger, self.ledger_count + 1, range);
+        self.ledger_count += 1;
+        self.pending_count = pending;
         self.steps += 1;
     }
 
-    // The last counted pending range, if any is counted; or a refusal where the lists are not as the search left them.
+    // The last counted pending range, if any is counted; or a refusal where the lists are not as the
+    // search left them.
     fn last_pending(
         &self,
         room: Room,
@@ -215,18 +223,20 @@ impl Study {
         pending: &[u32],
     ) -> Result<Option<Range>, Fault>
         requires { Runs room (moment self.now ledger.now pending.now) }
-        ensures left { let m = moment self.now ledger.now pending.now in
-            IfOk result (λ taken. AsLeft room m × MatchOption taken (self.now.pending ≡ 0) (λ r. (1 ≤ self.now.pending) × (r ≡ taken_of m))) }
-        ensures other { let m = moment self.now ledger.now pending.now in
-            IfErr result (λ fault. (fault ≡ OtherLists) × (AsLeft room m → ⊥)) }
+        ensures left { let now = moment self.now ledger.now pending.now in
+            IfOk result (λ taken. AsLeft room now
+            × MatchOption taken (self.now.pending_count ≡ 0)
+            (λ last. (1 ≤ self.now.pending_count) × (last ≡ taken_of now))) }
+        ensures other { let now = moment self.now ledger.now pending.now in
+            IfErr result (λ fault. (fault ≡ OtherLists) × ¬ AsLeft room now) }
     {
         if ledger.len() != SLOT * room.ledger || pending.len() != SLOT * room.pending {
             return Err(Fault::OtherLists);
         }
-        if self.pending == 0 {
+        if self.pending_count == 0 {
             return Ok(None);
         }
-        let taken = read_slot(pending, self.pending);
+        let taken = read_slot(pending, self.pending_count);
         if is_slot(&self.table, &taken) {
             Ok(Some(taken))
         } else {
@@ -237,19 +247,19 @@ impl Study {
     // Puts the grown form of the last pending range into the ledger, if it has a slot left.
     fn keep(&mut self, room: Room, grown: &Range, ledger: &mut [u32])
         requires runs { self.old.state ≡ state.Running room }
-        requires some { 1 ≤ self.old.pending }
+        requires some { 1 ≤ self.old.pending_count }
         requires long { length ledger.old ≡ 64 * room.ledger }
-        ensures { (p : List ℕ) → let m = moment self.old ledger.old p in
-            CarriesOut room m (deed.Keep grown.now) (moment self.new ledger.new p) }
+        ensures { (waiting : List ℕ) → let before = moment self.old ledger.old waiting in
+            CarriesOut room before (deed.Keep grown.now) (moment self.new ledger.new waiting) }
     {
-        if self.ledger == room.ledger {
+        if self.ledger_count == room.ledger {
             return self.end(room, State::Stopped);
         }
-        self.record(room, grown, ledger, self.pending - 1);
+        self.record(room, grown, ledger, self.pending_count - 1);
     }
 
-    // Puts the grown list of the last pending range's lows into the ledger and the range's pieces in its place, if
-    // both lists have the slots.
+    // Puts the grown list of the last pending range's lows into the ledger and the range's pieces in
+    // its place, if both lists have the slots.
     fn split(
         &mut self,
         room: Room,
@@ -259,18 +269,19 @@ impl Study {
         pending: &mut [u32],
     )
         requires runs { self.old.state ≡ state.Running room }
-        requires some { 1 ≤ self.old.pending }
-        requires long { (length ledger.old ≡ 64 * room.ledger) × (length pending.old ≡ 64 * room.pending) }
+        requires some { 1 ≤ self.old.pending_count }
+        requires ledger { length ledger.old ≡ 64 * room.ledger }
+        requires pending { length pending.old ≡ 64 * room.pending }
         requires taken { taken.now ≡ taken_of (moment self.old ledger.old pending.old) }
-        ensures { let m = moment self.old ledger.old pending.old in
-            CarriesOut room m (deed.Split grown.now) (moment self.new ledger.new pending.new) }
+        ensures { let before = moment self.old ledger.old pending.old in
+            CarriesOut room before (deed.Split grown.now) (moment self.new ledger.new pending.new) }
     {
         let rows = self.table.len();
-        let left = self.pending - 1 + count_pieces(rows, taken, grown);
-        if self.ledger == room.ledger || left > room.pending {
+        let left = self.pending_count - 1 + count_pieces(rows, taken, grown);
+        if self.ledger_count == room.ledger || left > room.pending {
             return self.end(room, State::Stopped);
         }
-        write_pieces(pending, self.pending, rows, taken, grown);
+        write_pieces(pending, self.pending_count, rows, taken, grown);
         self.record(room, grown, ledger, left);
     }
 
@@ -284,10 +295,12 @@ impl Study {
         pending: &mut [u32],
     )
         requires runs { self.old.state ≡ state.Running room }
-        requires some { 1 ≤ self.old.pending }
+        requires some { 1 ≤ self.old.pending_count }
         requires left { AsLeft room (moment self.old ledger.old pending.old) }
         requires taken { taken.now ≡ taken_of (moment self.old ledger.old pending.old) }
-        ensures { Stepped (T.answer test.now) room (moment self.old ledger.old pending.old) (moment self.new ledger.new pending.new) }
+        ensures { let before = moment self.old ledger.old pending.old in
+            let after = moment self.new ledger.new pending.new in
+            OneDeed (T.answer test.now) room before after }
     {
         match Deed::new(test, &self.table, taken) {
             Deed::End(verdict) => self.end(room, verdict),
@@ -307,7 +320,8 @@ impl Study {
         requires { self.old.state ≡ state.Running room }
         ensures { let before = moment self.old ledger.old pending.old in
             let after = moment self.new ledger.new pending.new in
-            Asks (AsLeft room before) (Refuses OtherLists before result after) ((result ≡ Ok tt) × Stepped (T.answer test.now) room before after) }
+            Asks (AsLeft room before) (Refuses OtherLists before result after)
+            ((result ≡ accepted) × OneDeed (T.answer test.now) room before after) }
     {
         match self.last_pending(room, ledger, pending)? {
             None => self.end(room, State::None),
@@ -319,7 +333,7 @@ impl Study {
 
 // The machine: a study's state and a call, together.
 impl Study {
-    ghost use Rattle.study.specs.Histories.{Since, History, Law, StepPromise};
+    ghost use Rattle.study.specs.Histories.{FromEach, Law, StepPromise};
     ghost use Rattle.study.specs.Machine.{Calls, CallPromise};
     ghost use Rattle.study.specs.Moments.{moment};
     ghost use Rattle.study.specs.Steps.{Steps};
@@ -335,10 +349,10 @@ impl Study {
     ) -> Result<(), Fault>
         ensures does { let lent = moment self.old ledger.old pending.old in
             Calls (T.answer test.now) call lent result (moment self.new ledger.new pending.new) }
-        ensures promise { (l p : List ℕ) (c : Since) → History (T.answer test.now) (moment self.old l p) c →
-            let lent = moment self.old ledger.old pending.old in
+        ensures promise { let lent = moment self.old ledger.old pending.old in
             let after = moment self.new ledger.new pending.new in
-            CallPromise (T.answer test.now) call lent after l p c result }
+            FromEach (T.answer test.now) self.old
+            (CallPromise (T.answer test.now) call lent result after) }
     {
         match (call, self.state) {
             (
@@ -367,10 +381,10 @@ impl Study {
         ensures does { let lent = moment self.old ledger.old pending.old in
             Steps (T.answer test.now) lent result (moment self.new ledger.new pending.new) }
         ensures law { Law (T.answer test.now) }
-        ensures promise { (l p : List ℕ) (c : Since) → History (T.answer test.now) (moment self.old l p) c →
-            let lent = moment self.old ledger.old pending.old in
+        ensures promise { let lent = moment self.old ledger.old pending.old in
             let after = moment self.new ledger.new pending.new in
-            StepPromise (T.answer test.now) lent after l p c result }
+            FromEach (T.answer test.now) self.old
+            (StepPromise (T.answer test.now) lent result after) }
     {
         self.call(Call::Step, test, ledger, pending)
     }
@@ -378,13 +392,14 @@ impl Study {
 
 // A whole search.
 impl Study {
-    ghost use Rattle.study.specs.Histories.{Since, History, Law, Means};
+    ghost use Rattle.study.specs.Histories.{FromEach, Law, Means};
     ghost use Rattle.study.specs.Moments.{moment};
     ghost use Rattle.study.specs.Searches.{Searches, SearchPromise};
 
     // Whether a search is running.
     fn is_running(&self) -> bool
-        ensures { IsTrue result ↔ ((room : OneRoom) × (self.now.state ≡ state.Running room)) }
+        ensures { IsTrue result
+            ↔ ((room : OneRoom) × (self.now.state ≡ state.Running room)) }
     {
         matches!(self.state, State::Running(_))
     }
@@ -401,10 +416,10 @@ impl Study {
             Searches (T.answer test.now) lent result (moment self.new ledger.new pending.new) }
         ensures means { IfOk result (λ _. Means (T.answer test.now) (moment self.new ledger.new pending.new)) }
         ensures law { Law (T.answer test.now) }
-        ensures promise { (l p : List ℕ) (c : Since) → History (T.answer test.now) (moment self.old l p) c →
-            let lent = moment self.old ledger.old pending.old in
+        ensures promise { let lent = moment self.old ledger.old pending.old in
             let after = moment self.new ledger.new pending.new in
-            SearchPromise (T.answer test.now) lent after l p c result }
+            FromEach (T.answer test.now) self.old
+            (SearchPromise (T.answer test.now) lent result after) }
     {
         self.begin(ledger, pending)?;
         while self.is_running() {

@@ -484,8 +484,8 @@ mod tests {
                 Some((row.wcet(), row.period(), row.deadline()))
             }),
             state: study.state(),
-            ledger: study.ledger(),
-            pending: study.pending(),
+            ledger: study.ledger_count(),
+            pending: study.pending_count(),
             steps: study.steps(),
         }
     }
@@ -866,7 +866,7 @@ mod tests {
         let test = rta(2)?;
         let mut lent = running()?;
         lent.study.step(&test, &mut lent.ledger, &mut lent.pending)?;
-        assert_eq!(rt; lent.study.pending(), 3);
+        assert_eq!(rt; lent.study.pending_count(), 3);
         lent.pending[128 + 3] = 1;
         let before = lent.all();
         let step = lent.study.step(&test, &mut lent.ledger, &mut lent.pending);

@@ -1,5 +1,6 @@
 // A row of a table.
 ghost use Rattle.std.specs.Prelude.{◌≡◌, ◌≤◌, ◌↔◌, IsTrue};
+ghost use Rattle.table.specs.declared.numbers.TheConstants.Numbers.{MOST};
 
 use crate::fault::{Fault, Place};
 use crate::numbers::Numbers;
@@ -11,7 +12,7 @@ pub struct Row {
     wcet: u32,
     period: u32,
     deadline: u32,
-    ghost ok: { (1 ≤ wcet) × (wcet ≤ deadline) × (deadline ≤ period) × (period ≤ 1000000) },
+    ghost ok: { (1 ≤ wcet) × (wcet ≤ deadline) × (deadline ≤ period) × (period ≤ MOST) },
 }
 
 impl Row {
@@ -67,7 +68,8 @@ impl Row {
     /// Whether `low` to `high` lies between the wcet and the deadline.
     pub fn spans(&self, low: u32, high: u32) -> bool
         ensures value { result ≡ spans self.now low high }
-        ensures lies { IsTrue result ↔ ((self.now.wcet ≤ low) × (low ≤ high) × (high ≤ self.now.deadline)) }
+        ensures lies { IsTrue result
+            ↔ ((self.now.wcet ≤ low) × (low ≤ high) × (high ≤ self.now.deadline)) }
     {
         let Row { wcet, deadline, .. } = *self;
         wcet <= low && low <= high && high <= deadline

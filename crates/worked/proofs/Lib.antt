@@ -2,5 +2,5 @@ mod Added
 mod Growths
 mod Searching
 mod Decisions
-mod Searched
+mod ToVerdict
 mod Shown

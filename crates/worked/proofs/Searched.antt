@@ -57,7 +57,7 @@ found_after_split before begun room r is has first three begins =
             stepped.0,
             (
               (divided.0, divided.1),
-              on.pending,
+              on.pending_count,
               λ r found steps.
                   let stepped = stepped_on (rta 2) own split found r on.runs on.kept steps in
                   let finds = does_find (rta 2) tasks own 1 3 (of_three 2 2 5 3 3 6) split found on stepped.1 last_open last_lows_open (lit≤ tt) (within_from tasks (of_three 2 2 5 2 2 5) last_inside) _ last_order in

@@ -82,13 +82,13 @@ Ranged = Closed (rta 2) tasks (ranged 4) × Open (rta 2) tasks (ranged 5)
 
 -- the ledger has one range, this one
 abbrev pub LedgerIs : Range → Moment → Type 0
-LedgerIs r m = (m.study.ledger ≡ 1) × (slot m.ledger 1 ≡ r)
+LedgerIs r m = (m.study.ledger_count ≡ 1) × (slot m.ledger 1 ≡ r)
 
 -- a search of the tasks under rta: the first step writes the closed range to the ledger and leaves three pending, and the second finds the order b, a, c for the estimates a 2, b 2, c 5
 abbrev pub FoundAfterSplit : Type 0
 FoundAfterSplit =
     BeginsTo tasks 1 3 (λ begun. StepsTo (rta 2) begun
-    (λ split. LedgerIs (ranged 4) split × (split.study.pending ≡ 3) × StepsTo (rta 2) split
+    (λ split. LedgerIs (ranged 4) split × (split.study.pending_count ≡ 3) × StepsTo (rta 2) split
     (λ found. (f : Finding) × (found.study.state ≡ state.Found f) × (take 3 f.order ≡ 2 ∷ (1 ∷ (3 ∷ []))) × (f.estimates ≡ padded (2 ∷ (2 ∷ (5 ∷ [])))))))
 
 -- a row 2/3/3
@@ -115,7 +115,7 @@ lone = record { wcet = 5; period = 5; deadline = 5; ok = (lit≤ tt, lit≤ tt, 
 
 -- a search of the one row under rta, on however many processors: the first step finds its order, and no range is in the ledger
 abbrev pub FoundAtOnce : Type 0
-FoundAtOnce = (p : Processors) → BeginsTo lone 1 1 (λ begun. StepsTo (rta p.count) begun (λ found. (f : Finding) × (found.study.state ≡ state.Found f) × (take 1 f.order ≡ 1 ∷ []) × (found.study.ledger ≡ 0)))
+FoundAtOnce = (p : Processors) → BeginsTo lone 1 1 (λ begun. StepsTo (rta p.count) begun (λ found. (f : Finding) × (found.study.state ≡ state.Found f) × (take 1 f.order ≡ 1 ∷ []) × (found.study.ledger_count ≡ 0)))
 
 -- all worked examples
 abbrev pub WorkedExamples : Type 0

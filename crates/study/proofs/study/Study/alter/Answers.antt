@@ -10,7 +10,7 @@ returns c =
     let k = c.args.k in
     let n = c.args.numbers in
     let does = edited (λ t r u. Alters t k n r u) c.args.self.now _ _ _ c.alter.ensures c.in_ok-alter.was c.redraft.ensures.table c.redraft.ensures.draft in
-    record { does = does; promise = λ meaning l p tally laws history. edit_promise meaning laws (Alter k n) _ _ _ does l p tally history }
+    record { does = does; promise = λ meaning laws l p tally history. edit_promise meaning laws (Alter k n) _ _ _ does l p tally history }
 
 pub returns-in_err-alter : goal.returns-in_err-alter
 returns-in_err-alter c =
@@ -20,4 +20,4 @@ returns-in_err-alter c =
     let same = alters_refused t c.alter.new.self k n _ c.in_err-alter.ensures in
     let is : c.from_residual.result ≡ Err c.in_err-alter.field-0.0 = search rules in
     let does = edit_refused (λ t r u. Alters t k n r u) c.args.self.now _ _ _ c.in_err-alter.ensures is (same_study c.args.self.now _ _ same) in
-    record { does = does; promise = λ meaning l p tally laws history. edit_promise meaning laws (Alter k n) _ _ _ does l p tally history }
+    record { does = does; promise = λ meaning laws l p tally history. edit_promise meaning laws (Alter k n) _ _ _ does l p tally history }

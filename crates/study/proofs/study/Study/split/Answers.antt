@@ -29,9 +29,9 @@ returns c =
     let is = pieces_at before c.args.taken.now c.args.grown.now _ c.requires.taken c.len-rows.ensures.rows in
     let count = c.count_pieces.ensures ∙ ap length is in
     let counted = counted_fits c.args.room before c.requires.runs in
-    let left : ℕ → List ℕ → Type 0 = λ m p. Leaves before (record { state = state.Running c.args.room; ledger_count = s.ledger + 1; pending_count = m; ledger = recorded before c.args.grown.now; pending = p }) after in (
+    let left : ℕ → List ℕ → Type 0 = λ m p. Leaves before (record { state = state.Running c.args.room; ledger_count = s.ledger_count + 1; pending_count = m; ledger = recorded before c.args.grown.now; pending = p }) after in (
       λ lacks. absurd (lacks (omega (arith, counted.0, c.if-self-room.false), omega (arith, count, c.if-left-room.false))),
       λ fits.
-          subst (λ p. left (s.pending - 1 + length (pieces_of before c.args.grown.now)) p) (c.write_pieces.ensures ∙ ap (put_slots c.args.pending.now s.pending) is)
-          (subst (λ m. left m c.write_pieces.new.list) (ap (λ n. s.pending - 1 + n) count) (c.record.ensures c.args.pending.now c.write_pieces.new.list)),
+          subst (λ p. left (s.pending_count - 1 + length (pieces_of before c.args.grown.now)) p) (c.write_pieces.ensures ∙ ap (put_slots c.args.pending.now s.pending_count) is)
+          (subst (λ m. left m c.write_pieces.new.list) (ap (λ n. s.pending_count - 1 + n) count) (c.record.ensures c.args.pending.now c.write_pieces.new.list)),
     )
