@@ -70,7 +70,7 @@ shown_alike tasks other same a b size alike r q one two =
     let levels = levels_alike tasks other same r.levels q.levels (names_of r) (names_of q) r.estimates q.estimates a.study.state b.study.state states one.levels two.levels in
     record {
       verdict = one.verdict ∙ verdict_alike _ a.study.state b.study.state states ∙ sym two.verdict;
-      ranges = one.ranges ∙ alike.ledger ∙ sym two.ranges;
+      ranges = one.ranges ∙ alike.ledger_count ∙ sym two.ranges;
       steps = one.steps ∙ alike.steps ∙ sym two.steps;
       levels = levels.0;
       shown = levels.1;

@@ -28,7 +28,7 @@ module _ (t : Overhead NamedTest) (s after : Study) (l p l' p' : List ℕ) (r : 
       let on = (searches.1 row).1 (slots, has) in
       let accepted = on.2 in
       let h = history t l p in
-      let kept = subst (SearchPromise (board_answer t) (moment s l p) (moment after l' p') l p h.0) accepted (promise l p h.0 h.1) in (
+      let kept = subst (λ x. SearchPromise (board_answer t) (moment s l p) x (moment after l' p') l p h.0) accepted (promise l p h.0 h.1) in (
         accepted,
         record {
           first = moment s l p;

@@ -2,5 +2,5 @@ mod Added
 mod Growths
 mod Searching
 mod Decisions
-mod ToVerdict
+mod Searched
 mod Shown
