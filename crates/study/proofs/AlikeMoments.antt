@@ -1,9 +1,9 @@
 -- Moments that are alike stay alike: steps from alike moments lead to alike ones.
-use Rattle.std.proofs.Common.{◌≡◌, ℕ, ◌+◌, ◌-◌, ◌*◌, ◌≤◌, ◌<◌, ◌↔◌, List, length, sym, refl, ap, ap₂, subst, ◌∙◌, inl, inr, arith}
+use Rattle.std.proofs.Common.{◌≡◌, ℕ, ◌+◌, ◌-◌, ◌*◌, ◌≤◌, ◌↔◌, List, length, sym, refl, ap, ap₂, subst, ◌∙◌, inl, inr, arith}
 use Rattle.std.proofs.lemmas.Bool.{cases_lt, cases_eq}
 use Rattle.table.specs.declared.row.Row.{Row}
 use Rattle.table.specs.Rows.{view}
-use Rattle.bounds.specs.Questions.{Meaning, Laws}
+use Rattle.bounds.specs.Questions.{Meaning}
 use Rattle.bounds.proofs.Padded.{padded_length}
 use Rattle.orders.specs.declared.range.Range.{Range}
 use Rattle.study.specs.declared.finding.Finding.{Finding}
@@ -128,7 +128,7 @@ module _ (meaning : Meaning) (room : Room) (before before' : Moment) (at : Keeps
   same_taken : 1 ≤ m → taken_of before' ≡ taken
   same_taken some = ap (slot before'.pending) (sym was.pending_count) ∙ sym (was.waiting m some (omega arith))
 
-  -- what the range of the second calls for, that of the first does
+  -- what is due of the range of the second is due of that of the first
   called : 1 ≤ m → (deed : Deed) → Due meaning (rows_of before') (taken_of before') deed → Due meaning rows taken deed
   called some deed calls = subst (λ r. Due meaning rows r deed) (same_taken some) (subst (λ x. Due meaning x (taken_of before') deed) (sym was.rows) calls)
 

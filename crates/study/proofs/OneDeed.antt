@@ -1,4 +1,4 @@
--- A range calls for one deed.
+-- One deed is due of a range.
 use Rattle.std.proofs.Common.{◌≡◌, ℕ, ◌≤◌, List, length, take, sym, refl, ap, subst, ◌∙◌, arith}
 use Rattle.std.proofs.lemmas.Option.{same_Some}
 use Rattle.table.specs.declared.row.Row.{Row}
@@ -9,7 +9,6 @@ use Rattle.orders.specs.Ranges.{Within, Open, Closed}
 use Rattle.orders.proofs.OneGrowth.{one_growth}
 use Rattle.study.specs.declared.room.Room.{Room}
 use Rattle.study.specs.declared.finding.Finding.{Finding}
-use Rattle.study.specs.declared.state.State.{State}
 use Rattle.study.specs.declared.state.State.TheVariants as state
 use Rattle.study.specs.declared.deed.Deed.{Deed}
 use Rattle.study.specs.declared.deed.Deed.TheVariants.{End, Keep, Split}
@@ -72,7 +71,7 @@ module _ (meaning : Meaning) (room : Room) (before : Moment) (within : Within (r
   fits_too d e (same_deed x) fits = fits
   fits_too d e (other_places f g both) fits = fits
 
-  -- what the last pending range calls for is done, where both lists have the slots
+  -- what is due of the last pending range is done, where both lists have the slots
   pub called_done : (d e : Deed) → Due meaning (rows_of before) (taken_of before) e → Fits room (left_by room before e) → Does meaning room before d → SameDeed (length (rows_of before)) d e
   called_done d e calls fits (none nothing) = absurd (omega (arith, nothing, some))
   called_done d e calls fits (does x some' calls' fits') = one_deed meaning (rows_of before) (taken_of before) within x e calls' calls

@@ -1,4 +1,4 @@
--- A step's work, from what the range that it takes calls for.
+-- A step's work, from what is due of the range that it takes.
 use Rattle.std.proofs.Common.{◌≡◌, ℕ, ◌≤◌, ◌⊎◌, length, ap₂, subst, inl, inr, arith}
 use Rattle.std.proofs.lemmas.Bool.{cases_lt}
 use Rattle.bounds.specs.Questions.{Meaning}

@@ -18,8 +18,8 @@ pub record IsDraft (study : Study) : Type 0 where
 abbrev pub IsNew : Study → Type 0
 IsNew study = (view study.table ≡ []) × IsDraft study
 
--- An edit: the table is as its own call leaves it. Where that is accepted the study is then a draft,
--- and where it is refused as it was.
+-- An edit: the table is as its own call leaves it. Where that is accepted the study is then a
+-- draft, and where it is refused as it was.
 abbrev pub Edits : (Table → Reply → Table → Type 0) → Study → Reply → Study → Type 0
 Edits call before reply after =
     call before.table reply after.table

@@ -20,8 +20,8 @@ finding_in (state.Found finding) = Some finding
 finding_in state.None = None
 finding_in state.Stopped = None
 
--- How many slots of each list may be counted: none in a draft, those that the list has while a search
--- runs, and up to 4,096 once there is a verdict.
+-- How many slots of each list may be counted: none in a draft, those that the list has while a
+-- search runs, and up to 4,096 once there is a verdict.
 abbrev pub ledger_room : State → ℕ
 ledger_room state.Draft = 0
 ledger_room (state.Running room) = room.ledger

@@ -80,8 +80,8 @@ module _ (meaning : Meaning) where
         → Steps meaning (moment now.study ledger pending) (refused fault) after
         → History (moment after.study now.ledger now.pending) (no_more tally)
 
-  -- What is shown on found: the order lists every row once, and no task of it is late; each estimate
-  -- lies from its row's C to its D, and the order passes them.
+  -- What is shown on found: the order lists every row once, and no task of it is late; each
+  -- estimate lies from its row's C to its D, and the order passes them.
   abbrev pub Shown : List Row → Finding → Type 0
   Shown rows finding =
       let order = take (length rows) finding.order in
@@ -130,7 +130,7 @@ module _ (meaning : Meaning) where
       (kept waiting : List ℕ) (tally : Tally) → History (moment study kept waiting) tally
       → promised kept waiting tally
 
-  -- after an edit or a refused call: the lists at hand stay, and nothing that was begun is counted anew
+  -- after an edit or a refused call: the lists at hand stay, and nothing is counted anew
   abbrev pub StaysPromised : Study → List ℕ → List ℕ → Tally → Type 0
   StaysPromised after kept waiting tally = Promise (moment after kept waiting) (no_more tally)
 
@@ -141,8 +141,8 @@ module _ (meaning : Meaning) where
       IfOk reply (λ _. kept ≡ lent.ledger → waiting ≡ lent.pending → Promise after (one_more tally))
       × IfErr reply (λ _. StaysPromised after.study kept waiting tally)
 
-  -- The promise after a begin, with these lists at hand. It may be lent two others, which take their
-  -- place if it is accepted.
+  -- The promise after a begin, with these lists at hand. It may be lent two others, which take
+  -- their place if it is accepted.
   abbrev pub BeginPromise : Moment → Reply → Moment → List ℕ → List ℕ → Tally → Type 0
   BeginPromise lent reply after kept waiting tally =
       IfOk reply (λ _. Promise after (counted_from (length lent.ledger / 64)))

@@ -32,7 +32,8 @@ module _ (meaning : Meaning) where
       (Asks ((room : Room) × HasRoom room before) (Refuses BadSlots before reply after)
       ((room : Room) × HasRoom room before × (reply ≡ accepted) × ToVerdict room before after))
 
-  -- The promise after a search, with these lists at hand. It may be lent two others, as its begin may.
+  -- The promise after a search, with these lists at hand. It may be lent two others, as its begin
+  -- may.
   abbrev pub SearchPromise : Moment → Reply → Moment → List ℕ → List ℕ → Tally → Type 0
   SearchPromise lent reply after kept waiting tally =
       IfOk reply (λ _. Promise meaning after (record {

@@ -16,4 +16,7 @@ put_slot list k r = written_over list (64 * (k - 1)) (r.lows ++ r.highs)
 
 -- the range in slot k
 abbrev pub slot : List ℕ → ℕ → Range
-slot list k = record { lows = take 32 (drop (64 * (k - 1)) list); highs = take 32 (drop (64 * (k - 1) + 32) list) }
+slot list k = record {
+  lows = take 32 (drop (64 * (k - 1)) list);
+  highs = take 32 (drop (64 * (k - 1) + 32) list);
+}

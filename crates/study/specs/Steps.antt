@@ -33,8 +33,8 @@ ZeroPast n numbers = (k : ℕ) → n < k → nth numbers k 0 ≡ 0
 abbrev pub IsSlot : List Row → Range → Type 0
 IsSlot rows r = Within rows r × ZeroPast (length rows) r.lows × ZeroPast (length rows) r.highs
 
--- both lists have the length they had at begin, and the last counted pending slot, if any is counted,
--- holds a range of the table
+-- both lists have the length they had at begin, and the last counted pending slot, if any is
+-- counted, holds a range of the table
 abbrev pub AsLeft : Room → Moment → Type 0
 AsLeft room now =
     (length now.ledger ≡ 64 * room.ledger) × (length now.pending ≡ 64 * room.pending)
@@ -66,9 +66,9 @@ recorded now r = put_slot now.ledger (now.study.ledger_count + 1) r
 abbrev pub pieces_of : Moment → Range → List Range
 pieces_of now grown = pieces (taken_of now) grown (length (rows_of now))
 
--- For each deed, what it leaves. A verdict alters no lent number and neither count. What is kept goes
--- to the ledger, and its range leaves the pending list. What a range is split by goes to the ledger,
--- and the range is replaced by its pieces.
+-- For each deed, what it leaves. A verdict alters no lent number and neither count. What is kept
+-- goes to the ledger, and its range leaves the pending list. What a range is split by goes to the
+-- ledger, and the range is replaced by its pieces.
 abbrev pub left_by : Room → Moment → Deed → Left
 left_by room now (End verdict) = record {
   state = verdict;
@@ -96,7 +96,8 @@ left_by room now (Split grown) = record {
 abbrev pub Fits : Room → Left → Type 0
 Fits room left = (left.ledger_count ≤ room.ledger) × (left.pending_count ≤ room.pending)
 
--- a deed is done where both lists have the slots for it, and where one is lacking the search is stopped
+-- a deed is done where both lists have the slots for it, and where one is lacking the search is
+-- stopped
 abbrev pub CarriesOut : Room → Moment → Deed → Moment → Type 0
 CarriesOut room before deed after =
     Asks (Fits room (left_by room before deed))

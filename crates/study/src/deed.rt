@@ -14,9 +14,10 @@ use table::Table;
 pub enum Deed {
     /// It ends the search with this verdict.
     End(State),
-    /// It puts the grown form of the last pending range into the ledger, and takes the range off the list.
+    /// It puts the grown form of the last pending range into the ledger, and takes the range off
+    /// the list.
     Keep(Range),
-    /// It puts the grown list of that range's lows into the ledger, and pieces in the range's place.
+    /// It puts the grown list of that range's lows into the ledger, and pieces in its place.
     Split(Range),
 }
 

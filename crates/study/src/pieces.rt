@@ -22,7 +22,8 @@ pub(crate) fn count_pieces(rows: usize, taken: &Range, grown: &Range) -> usize
 // Writes the pieces into the slots from `k` on.
 pub(crate) fn write_pieces(list: &mut [u32], k: usize, rows: usize, taken: &Range, grown: &Range)
     requires few { (rows ≤ 32) × (k ≤ 4096) }
-    requires room { (1 ≤ k) × (64 * (k - 1 + length (pieces taken.now grown.now rows)) ≤ length list.old) }
+    requires room { let count = length (pieces taken.now grown.now rows) in
+        (1 ≤ k) × (64 * (k - 1 + count) ≤ length list.old) }
     ensures { list.new ≡ put_slots list.old k (pieces taken.now grown.now rows) }
 {
     let mut slot = k;

@@ -16,7 +16,8 @@ impl Room {
 
     // How many slots both lists have, if they are of whole slots.
     pub(crate) fn of(ledger: &[u32], pending: &[u32]) -> Option<Room>
-        ensures some { IfSome result (λ room. HasSlots ledger.now room.ledger × HasSlots pending.now room.pending) }
+        ensures some { IfSome result (λ room.
+            HasSlots ledger.now room.ledger × HasSlots pending.now room.pending) }
         ensures none { IfNone result ((room : OneRoom) →
             HasSlots ledger.now room.ledger → ¬ HasSlots pending.now room.pending) }
     {

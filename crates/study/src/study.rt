@@ -1,4 +1,5 @@
-// A table, and how far the search for an order of it has come. The ledger and the pending list are the caller's.
+// A table, and how far the search for an order of it has come. The ledger and the pending list are
+// the caller's.
 ghost use Rattle.std.specs.Prelude.{◌≡◌, ℕ, ◌+◌, ◌-◌, ◌*◌, ◌<◌, ◌≤◌, ◌⊎◌, ◌↔◌, List, length, IfOk, IfErr, IsTrue, MatchOption};
 ghost use Rattle.table.specs.declared.fault.Fault.TheVariants.{OtherLists};
 ghost use Rattle.table.specs.Asking.{Asks, Refuses, accepted};
@@ -101,8 +102,8 @@ impl Study {
         self.steps = 0;
     }
 
-    /// Puts the row of these numbers after the last one. Refused where the table is full (9), and where the
-    /// numbers make no row (11); the study is then as it was, and otherwise a draft.
+    /// Puts the row of these numbers after the last one. Refused where the table is full (9), and
+    /// where the numbers make no row (11); the study is then as it was, and otherwise a draft.
     pub fn add(&mut self, numbers: Numbers) -> Result<(), Fault>
         ensures does { Edits (λ t r u. Adds t numbers r u) self.old result self.new }
         ensures promise { EditPromise self.old self.new }
@@ -112,8 +113,9 @@ impl Study {
         Ok(())
     }
 
-    /// Makes row `k` that of these numbers; every other row stands as it stood. Refused where there is no row
-    /// `k` (10), and where the numbers make no row (11); the study is then as it was, and otherwise a draft.
+    /// Makes row `k` that of these numbers; every other row stands as it stood. Refused where there
+    /// is no row `k` (10), and where the numbers make no row (11); the study is then as it was, and
+    /// otherwise a draft.
     pub fn alter(&mut self, k: usize, numbers: Numbers) -> Result<(), Fault>
         ensures does { Edits (λ t r u. Alters t k numbers r u) self.old result self.new }
         ensures promise { EditPromise self.old self.new }
@@ -123,8 +125,8 @@ impl Study {
         Ok(())
     }
 
-    /// Takes row `k` out; the later rows move up by one. Refused where there is no row `k` (10); the study is
-    /// then as it was, and otherwise a draft.
+    /// Takes row `k` out; the later rows move up by one. Refused where there is no row `k` (10); the
+    /// study is then as it was, and otherwise a draft.
     pub fn remove(&mut self, k: usize) -> Result<(), Fault>
         ensures does { Edits (λ t r u. Removes t k r u) self.old result self.new }
         ensures promise { EditPromise self.old self.new }
@@ -152,9 +154,9 @@ impl Study {
     ghost use Rattle.study.specs.Histories.{FromEach, BeginPromise};
     ghost use Rattle.study.specs.Moments.{moment};
 
-    /// Begins a search: the range of all C to D is written into pending slot 1. Refused where the table has no
-    /// row (13), and where a list has not 1 to 4,096 whole slots and nothing over (14); the study and both lists
-    /// are then as they were.
+    /// Begins a search: the range of all C to D is written into pending slot 1. Refused where the
+    /// table has no row (13), and where a list has not 1 to 4,096 whole slots and nothing over (14);
+    /// the study and both lists are then as they were.
     pub fn begin(&mut self, ledger: &mut [u32], pending: &mut [u32]) -> Result<(), Fault>
         ensures does { let lent = moment self.old ledger.old pending.old in
             Begins lent result (moment self.new ledger.new pending.new) }
@@ -201,11 +203,11 @@ impl Study {
         requires left { (self.old.ledger_count < room.ledger) × (pending ≤ room.pending) }
         ensures { (kept left : List ℕ) → let before = moment self.old ledger.old kept in
             Leaves before (record {
-                state = state.Running room;
-                ledger_count = self.old.ledger_count + 1;
-                pending_count = pending;
-                ledger = recorded before range.now;
-                pending = left
+              state = state.Running room;
+              ledger_count = self.old.ledger_count + 1;
+              pending_count = pending;
+              ledger = recorded before range.now;
+              pending = left;
             }) (moment self.new ledger.new left) }
     {
         write_slot(ledger, self.ledger_count + 1, range);
@@ -214,8 +216,8 @@ impl Study {
         self.steps += 1;
     }
 
-    // The last counted pending range, if any is counted; or a refusal where the lists are not as the
-    // search left them.
+    // The last counted pending range, if any is counted; or a refusal where the lists are not as
+    // the search left them.
     fn last_pending(
         &self,
         room: Room,
@@ -258,8 +260,8 @@ impl Study {
         self.record(room, grown, ledger, self.pending_count - 1);
     }
 
-    // Puts the grown list of the last pending range's lows into the ledger and the range's pieces in
-    // its place, if both lists have the slots.
+    // Puts the grown list of the last pending range's lows into the ledger and the range's pieces
+    // in its place, if both lists have the slots.
     fn split(
         &mut self,
         room: Room,
@@ -338,8 +340,8 @@ impl Study {
     ghost use Rattle.study.specs.Moments.{moment};
     ghost use Rattle.study.specs.Steps.{Steps};
 
-    /// Does what a call asks, in the state that the study is in. An edit touches no list, and begin asks no test.
-    /// Refused as the call itself is; nothing is then altered.
+    /// Does what a call asks, in the state that the study is in. An edit touches no list, and begin
+    /// asks no test. Refused as the call itself is; nothing is then altered.
     pub fn call<T: Test>(
         &mut self,
         call: Call,
@@ -370,8 +372,8 @@ impl Study {
         }
     }
 
-    /// One step of the search that is running. Refused where none is running (15), and where the lists are not as
-    /// the search left them (16); the study and both lists are then as they were.
+    /// One step of the search that is running. Refused where none is running (15), and where the
+    /// lists are not as the search left them (16); the study and both lists are then as they were.
     pub fn step<T: Test>(
         &mut self,
         test: &T,
@@ -404,8 +406,8 @@ impl Study {
         matches!(self.state, State::Running(_))
     }
 
-    /// Begins a search, and steps until there is a verdict. Refused as begin is; the study and both lists are then
-    /// as they were.
+    /// Begins a search, and steps until there is a verdict. Refused as begin is; the study and both
+    /// lists are then as they were.
     pub fn search<T: Test>(
         &mut self,
         test: &T,
@@ -414,7 +416,8 @@ impl Study {
     ) -> Result<(), Fault>
         ensures leads { let lent = moment self.old ledger.old pending.old in
             Searches (T.answer test.now) lent result (moment self.new ledger.new pending.new) }
-        ensures means { IfOk result (λ _. Means (T.answer test.now) (moment self.new ledger.new pending.new)) }
+        ensures means { let after = moment self.new ledger.new pending.new in
+            IfOk result (λ _. Means (T.answer test.now) after) }
         ensures law { Law (T.answer test.now) }
         ensures promise { let lent = moment self.old ledger.old pending.old in
             let after = moment self.new ledger.new pending.new in

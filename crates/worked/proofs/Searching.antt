@@ -128,7 +128,7 @@ module _ (meaning : Meaning) where
           ap (λ l. slot l (n + 1)) (is ∙ ap (λ i. put_slot at.ledger (i + 1) q) on.ledger_count)
           ∙ put_slot_back at.ledger (n + 1) q wide (omega arith) (omega (arith, left, (on.kept.runs room on.runs).long_ledger))
 
-      -- the range calls for a deed after which the search goes on, and both lists have the slots: it is done
+      -- a deed is due after which the search goes on, and both lists have the slots: it is done
       goes : (deed : Deed) → 1 ≤ goes_on deed → Due meaning rows taken deed → Fits room (left_by room at deed) → Leaves at (left_by room at deed) after
       goes deed on_it calls fits =
           let within = ((on.kept.runs room on.runs).waiting at.study.pending_count some (omega arith)).0 in

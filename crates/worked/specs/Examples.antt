@@ -1,4 +1,4 @@
--- The worked examples: what the definitions give on small tables. Where nothing else is said, m = 2.
+-- The worked examples: what the definitions give on small tables, on 2 processors if none are named.
 use Rattle.std.specs.Prelude.{◌≡◌, ℕ, Bool, true, false, List, [], ◌∷◌, take, replicate, Some, None, Option}
 use Rattle.std.proofs.Common.{lit≤}
 use Rattle.table.specs.declared.row.Row.{Row}
@@ -47,7 +47,8 @@ of_c above estimates = record { rows = tasks; task = 3; above = above; estimates
 
 -- da of c: late with a and b above, 5 with only a
 abbrev pub DeadlineAnalysis : Type 0
-DeadlineAnalysis = (da 2 (of_c a_and_b (wcets tasks)) ≡ None) × (da 2 (of_c only_a (wcets tasks)) ≡ Some 5)
+DeadlineAnalysis =
+    (da 2 (of_c a_and_b (wcets tasks)) ≡ None) × (da 2 (of_c only_a (wcets tasks)) ≡ Some 5)
 
 -- estimates of a and b, with c's own C
 abbrev pub estimates : ℕ → ℕ → List ℕ
@@ -56,7 +57,9 @@ estimates x y = padded (x ∷ (y ∷ (3 ∷ [])))
 -- rta of c with a and b above: 5 with the estimates 2 and 2, and with 2 and 3; late with 3 and 3
 abbrev pub ResponseAnalysis : Type 0
 ResponseAnalysis =
-    (rta 2 (of_c a_and_b (estimates 2 2)) ≡ Some 5) × (rta 2 (of_c a_and_b (estimates 2 3)) ≡ Some 5) × (rta 2 (of_c a_and_b (estimates 3 3)) ≡ None)
+    (rta 2 (of_c a_and_b (estimates 2 2)) ≡ Some 5)
+    × (rta 2 (of_c a_and_b (estimates 2 3)) ≡ Some 5)
+    × (rta 2 (of_c a_and_b (estimates 3 3)) ≡ None)
 
 -- lc of c with a and b above: 5 with the estimates 5 and 5
 abbrev pub LimitedAnalysis : Type 0
@@ -66,11 +69,14 @@ LimitedAnalysis = lc 2 (of_c a_and_b (estimates 5 5)) ≡ Some 5
 abbrev pub under : ℕ → Option ℕ → Option ℕ
 under v below = over v c below
 
--- rta of c with a and b above and the estimates 2 and 2: an overhead of 1 gives 6, of 2 late, of 1 over 1 late, of 1 over 0 gives 6
+-- rta of c with a and b above and the estimates 2 and 2: an overhead of 1 gives 6, of 2 late, of 1
+-- over 1 late, of 1 over 0 gives 6
 abbrev pub Overheads : Type 0
 Overheads =
-    (under 1 (rta 2 (of_c a_and_b (estimates 2 2))) ≡ Some 6) × (under 2 (rta 2 (of_c a_and_b (estimates 2 2))) ≡ None)
-    × (under 1 (under 1 (rta 2 (of_c a_and_b (estimates 2 2)))) ≡ None) × (under 1 (under 0 (rta 2 (of_c a_and_b (estimates 2 2)))) ≡ Some 6)
+    (under 1 (rta 2 (of_c a_and_b (estimates 2 2))) ≡ Some 6)
+    × (under 2 (rta 2 (of_c a_and_b (estimates 2 2))) ≡ None)
+    × (under 1 (under 1 (rta 2 (of_c a_and_b (estimates 2 2)))) ≡ None)
+    × (under 1 (under 0 (rta 2 (of_c a_and_b (estimates 2 2)))) ≡ Some 6)
 
 -- the range of a from 2 to 3, b from 2 to 3, and c from 3 to a high
 abbrev pub ranged : ℕ → Range
@@ -84,12 +90,14 @@ Ranged = Closed (rta 2) tasks (ranged 4) × Open (rta 2) tasks (ranged 5)
 abbrev pub LedgerIs : Range → Moment → Type 0
 LedgerIs r m = (m.study.ledger_count ≡ 1) × (slot m.ledger 1 ≡ r)
 
--- a search of the tasks under rta: the first step writes the closed range to the ledger and leaves three pending, and the second finds the order b, a, c for the estimates a 2, b 2, c 5
+-- a search of the tasks under rta: the first step writes the closed range to the ledger and leaves
+-- three pending, and the second finds the order b, a, c for the estimates a 2, b 2, c 5
 abbrev pub FoundAfterSplit : Type 0
 FoundAfterSplit =
     BeginsTo tasks 1 3 (λ begun. StepsTo (rta 2) begun
     (λ split. LedgerIs (ranged 4) split × (split.study.pending_count ≡ 3) × StepsTo (rta 2) split
-    (λ found. (f : Finding) × (found.study.state ≡ state.Found f) × (take 3 f.order ≡ 2 ∷ (1 ∷ (3 ∷ []))) × (f.estimates ≡ padded (2 ∷ (2 ∷ (5 ∷ [])))))))
+    (λ found. (f : Finding) × (found.study.state ≡ state.Found f)
+    × (take 3 f.order ≡ 2 ∷ (1 ∷ (3 ∷ []))) × (f.estimates ≡ padded (2 ∷ (2 ∷ (5 ∷ [])))))))
 
 -- a row 2/3/3
 abbrev pub tight : Row
@@ -103,7 +111,8 @@ pair = tight ∷ (tight ∷ [])
 abbrev pub both : Range
 both = record { lows = padded (2 ∷ (2 ∷ [])); highs = padded (3 ∷ (3 ∷ [])) }
 
--- a search of the two rows under rta on 1 processor: the first step keeps the range with both from 2 to 3, and the second says none
+-- a search of the two rows under rta on 1 processor: the first step keeps the range with both from 2
+-- to 3, and the second says none
 abbrev pub NoneAfterKept : Type 0
 NoneAfterKept =
     BeginsTo pair 1 1 (λ begun. StepsTo (rta 1) begun
@@ -113,10 +122,16 @@ NoneAfterKept =
 abbrev pub lone : List Row
 lone = record { wcet = 5; period = 5; deadline = 5; ok = (lit≤ tt, lit≤ tt, lit≤ tt, lit≤ tt) } ∷ []
 
--- a search of the one row under rta, on however many processors: the first step finds its order, and no range is in the ledger
+-- a search of the one row under rta, on however many processors: the first step finds its order, and
+-- no range is in the ledger
 abbrev pub FoundAtOnce : Type 0
-FoundAtOnce = (p : Processors) → BeginsTo lone 1 1 (λ begun. StepsTo (rta p.count) begun (λ found. (f : Finding) × (found.study.state ≡ state.Found f) × (take 1 f.order ≡ 1 ∷ []) × (found.study.ledger_count ≡ 0)))
+FoundAtOnce = (p : Processors) →
+    BeginsTo lone 1 1 (λ begun. StepsTo (rta p.count) begun
+    (λ found. (f : Finding) × (found.study.state ≡ state.Found f)
+    × (take 1 f.order ≡ 1 ∷ []) × (found.study.ledger_count ≡ 0)))
 
 -- all worked examples
 abbrev pub WorkedExamples : Type 0
-WorkedExamples = Work × DeadlineAnalysis × ResponseAnalysis × LimitedAnalysis × Overheads × Ranged × FoundAfterSplit × NoneAfterKept × FoundAtOnce
+WorkedExamples =
+    Work × DeadlineAnalysis × ResponseAnalysis × LimitedAnalysis × Overheads × Ranged
+    × FoundAfterSplit × NoneAfterKept × FoundAtOnce

@@ -1,4 +1,4 @@
-use Rattle.std.proofs.Common.{ap, sym, ◌∙◌}
+use Rattle.std.proofs.Common.{ap}
 use Rattle.study.specs.declared.deed.Deed.TheVariants.{Keep, Split}
 use Rattle.study.specs.Counts.{verdicts}
 use Rattle.study.specs.Moments.{moment}

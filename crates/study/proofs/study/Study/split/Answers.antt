@@ -1,4 +1,4 @@
-use Rattle.std.proofs.Common.{◌≡◌, ℕ, ◌+◌, ◌-◌, List, length, ap, subst, ◌∙◌, inl, inr, arith}
+use Rattle.std.proofs.Common.{ℕ, ◌+◌, ◌-◌, List, length, ap, subst, ◌∙◌, inl, inr, arith}
 use Rattle.table.proofs.View.{few_rows}
 use Rattle.study.specs.declared.state.State.TheVariants as state
 use Rattle.study.specs.Moments.{moment}
