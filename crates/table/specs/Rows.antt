@@ -9,7 +9,7 @@ use Rattle.table.specs.declared.row.Row.{Row}
 use Rattle.table.specs.declared.rows.Rows.{Rows}
 use Rattle.table.specs.declared.fault.Fault.{Fault}
 use Rattle.table.specs.declared.fault.Fault.TheVariants.{Full, NoRow, BadRow}
-use Rattle.table.specs.Asking.{Asks, Refuses}
+use Rattle.table.specs.Asking.{Asks, Reply, Refuses, accepted}
 use Rattle.table.specs.Faults.{nowhere}
 use Rattle.table.specs.Places.{nth, put}
 
@@ -64,21 +64,21 @@ abbrev pub Names : List Row → ℕ → Type 0
 Names rows k = (1 ≤ k) × (k ≤ length rows)
 
 -- add: the row of these numbers stands after the last one
-abbrev pub Adds : Table → Numbers → Result (Unit {0}) Fault → Table → Type 0
+abbrev pub Adds : Table → Numbers → Reply → Table → Type 0
 Adds t n r t' =
     Asks (length (view t) < 32) (Refuses Full t r t')
-    (MakesRow n (λ fault. Refuses fault t r t') (λ row. (r ≡ Ok tt) × (view t' ≡ view t ++ row ∷ [])))
+    (MakesRow n (λ fault. Refuses fault t r t') (λ row. (r ≡ accepted) × (view t' ≡ view t ++ row ∷ [])))
 
 -- alter: row k is of these numbers, and every other row is as it stood
-abbrev pub Alters : Table → ℕ → Numbers → Result (Unit {0}) Fault → Table → Type 0
+abbrev pub Alters : Table → ℕ → Numbers → Reply → Table → Type 0
 Alters t k n r t' =
     Asks (Names (view t) k) (Refuses NoRow t r t')
-    (MakesRow n (λ fault. Refuses fault t r t') (λ row. (r ≡ Ok tt) × (view t' ≡ put (view t) k row)))
+    (MakesRow n (λ fault. Refuses fault t r t') (λ row. (r ≡ accepted) × (view t' ≡ put (view t) k row)))
 
 -- remove: row k is taken out, and later rows move up by one
-abbrev pub Removes : Table → ℕ → Result (Unit {0}) Fault → Table → Type 0
+abbrev pub Removes : Table → ℕ → Reply → Table → Type 0
 Removes t k r t' =
-    Asks (Names (view t) k) (Refuses NoRow t r t') ((r ≡ Ok tt) × (view t' ≡ remove (view t) (k - 1)))
+    Asks (Names (view t) k) (Refuses NoRow t r t') ((r ≡ accepted) × (view t' ≡ remove (view t) (k - 1)))
 
 -- reading row k gives it, or a refusal where there is none
 abbrev pub Reads : Table → ℕ → Result Row Fault → Type 0
