@@ -1,4 +1,4 @@
--- A question that a call asks is met, and what a call says is said in other words.
+-- A question that a call asks holds, and what a call says is said in other words.
 use Rattle.std.proofs.Common.{Ok, Err, ◌≡◌, ap}
 use Rattle.std.proofs.lemmas.Bool.{true≢false}
 use Rattle.std.specs.Result.{is_ok}

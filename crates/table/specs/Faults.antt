@@ -10,7 +10,7 @@ use Rattle.table.specs.declared.fault.Fault.TheVariants.{BadText, BadNames, BadF
 abbrev pub nowhere : Place
 nowhere = record { sheet = 0; line = 0; field = 0 }
 
--- the number of the question that was missed
+-- the number of the question that fails
 abbrev pub number_of : Fault → ℕ
 number_of (BadText p) = 1
 number_of (BadNames p) = 2

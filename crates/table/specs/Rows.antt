@@ -43,7 +43,8 @@ MadeRow n r =
     Asks (IsRow n) (r ≡ Err (BadRow nowhere))
     ((row : Row) × (r ≡ Ok row) × Of row n)
 
--- a call makes a row of numbers: where that is refused so is the call, and otherwise it goes on with the row
+-- a call makes a row of numbers: where that is refused so is the call, and otherwise it goes on
+-- with the row
 abbrev pub MakesRow : Numbers → (Fault → Type 0) → (Row → Type 0) → Type 0
 MakesRow n refused on = (made : Result Row Fault) × MadeRow n made × MatchResult made on refused
 
@@ -67,18 +68,21 @@ Names rows k = (1 ≤ k) × (k ≤ length rows)
 abbrev pub Adds : Table → Numbers → Reply → Table → Type 0
 Adds t n r t' =
     Asks (length (view t) < 32) (Refuses Full t r t')
-    (MakesRow n (λ fault. Refuses fault t r t') (λ row. (r ≡ accepted) × (view t' ≡ view t ++ row ∷ [])))
+    (MakesRow n (λ fault. Refuses fault t r t')
+    (λ row. (r ≡ accepted) × (view t' ≡ view t ++ row ∷ [])))
 
 -- alter: row k is of these numbers, and every other row is as it stood
 abbrev pub Alters : Table → ℕ → Numbers → Reply → Table → Type 0
 Alters t k n r t' =
     Asks (Names (view t) k) (Refuses NoRow t r t')
-    (MakesRow n (λ fault. Refuses fault t r t') (λ row. (r ≡ accepted) × (view t' ≡ put (view t) k row)))
+    (MakesRow n (λ fault. Refuses fault t r t')
+    (λ row. (r ≡ accepted) × (view t' ≡ put (view t) k row)))
 
 -- remove: row k is taken out, and later rows move up by one
 abbrev pub Removes : Table → ℕ → Reply → Table → Type 0
 Removes t k r t' =
-    Asks (Names (view t) k) (Refuses NoRow t r t') ((r ≡ accepted) × (view t' ≡ remove (view t) (k - 1)))
+    Asks (Names (view t) k) (Refuses NoRow t r t')
+    ((r ≡ accepted) × (view t' ≡ remove (view t) (k - 1)))
 
 -- reading row k gives it, or a refusal where there is none
 abbrev pub Reads : Table → ℕ → Result Row Fault → Type 0

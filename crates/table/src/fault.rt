@@ -1,4 +1,4 @@
-// Why a call is refused: the question that it missed.
+// Why a call is refused: the question that fails.
 ghost use Rattle.std.specs.Prelude.{◌≡◌, Some};
 ghost use Rattle.table.specs.Faults.{number_of, layer_of, place_of, words_of};
 
@@ -48,7 +48,8 @@ pub enum Fault {
     BadLineCount(Place),
     /// The name stands on an earlier line of the tasks sheet too.
     RepeatedTask(Place),
-    /// The answered name is not on the tasks sheet, or stands on an earlier line of the answer sheet too.
+    /// The answered name is not on the tasks sheet, or stands on an earlier line of the answer
+    /// sheet too.
     BadAnswer(Place),
     /// The task is not on the answer sheet.
     NoAnswer(Place),
@@ -68,14 +69,15 @@ pub enum Fault {
     NotRunning,
     /// The lists are not those that the search left, by their lengths or by the last pending range.
     OtherLists,
-    /// The order does not name each row once, or there is not one estimate for each row from its C to its D.
+    /// The order does not name each row once, or there is not one estimate for each row from its
+    /// C to its D.
     BadOrder(Place),
     /// The list for the bounds has not exactly one place for each row.
     BadLength,
 }
 
 impl Fault {
-    /// The number of the question that was missed: the rules number them, and print the number.
+    /// The number of the question that fails: the rules number them, and print the number.
     pub fn number(self) -> u32
         ensures { result ≡ number_of self }
     {

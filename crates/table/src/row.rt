@@ -67,7 +67,8 @@ impl Row {
     /// Whether `low` to `high` lies between the wcet and the deadline.
     pub fn spans(&self, low: u32, high: u32) -> bool
         ensures value { result ≡ spans self.now low high }
-        ensures lies { IsTrue result ↔ ((self.now.wcet ≤ low) × (low ≤ high) × (high ≤ self.now.deadline)) }
+        ensures lies { IsTrue result
+            ↔ ((self.now.wcet ≤ low) × (low ≤ high) × (high ≤ self.now.deadline)) }
     {
         let Row { wcet, deadline, .. } = *self;
         wcet <= low && low <= high && high <= deadline

@@ -1,6 +1,8 @@
-// A table of 0 to 32 rows, in an array with a length: no library crate has a heap for a `Vec`. It has no model:
-// that a refused call leaves it as it was is said of the whole table, not of what clients see.
-ghost use Rattle.std.specs.Prelude.{◌≡◌, ◌+◌, ◌-◌, ◌<◌, ◌≤◌, [], ◌↔◌, length, IsTrue, IfSome, IfNone};
+// A table of 0 to 32 rows, in an array with a length: no library crate has a heap for a `Vec`.
+// It has no model: that a refused call leaves it as it was is said of the whole table, not of
+// what clients see.
+ghost use Rattle.std.specs.Prelude.{◌≡◌, ◌+◌, ◌-◌, ◌<◌, ◌≤◌, ◌↔◌, [], length};
+ghost use Rattle.std.specs.Prelude.{IsTrue, IfSome, IfNone};
 ghost use Rattle.std.specs.Borrow.{sem, LendsIf};
 ghost use Rattle.table.specs.Places.{nth, put};
 
@@ -36,10 +38,12 @@ impl<X> Rows<X> {
 
     // Lends row `k`, if there is one.
     fn row_mut(&mut self, k: usize) -> Option<&mut X>
-        ensures* follows { sem 𝓛 (LendsIf (table_type X.row) X.row self.entry result (with_row self.old (k - 1)) self.old) }
+        ensures* follows { sem 𝓛 (LendsIf (table_type X.row) X.row
+            self.entry result (with_row self.old (k - 1)) self.old) }
         ensures value { IfSome result (λ row. (d : X) → row.now ≡ nth (view self.old) k d) }
         ensures same { IfSome result (λ row. with_row self.old (k - 1) row.now ≡ self.old) }
-        ensures rows { IfSome result (λ _. (w : X) → view (with_row self.old (k - 1) w) ≡ put (view self.old) k w) }
+        ensures rows { IfSome result (λ _. (w : X)
+            → view (with_row self.old (k - 1) w) ≡ put (view self.old) k w) }
         ensures named { IfSome result (λ _. (1 ≤ k) × (k ≤ length (view self.old))) }
         ensures none { IfNone result (¬ ((1 ≤ k) × (k ≤ length (view self.old)))) }
     {
@@ -93,8 +97,8 @@ impl Rows<Row> {
         self.rows() == other.rows()
     }
 
-    /// Puts the row of these numbers after the last one. Refused where the table is full (9), and where
-    /// the numbers make no row (11); the table is then as it was.
+    /// Puts the row of these numbers after the last one. Refused where the table is full (9), and
+    /// where the numbers make no row (11); the table is then as it was.
     pub fn add(&mut self, numbers: Numbers) -> Result<(), Fault>
         ensures { Adds self.old numbers result self.new }
     {
@@ -107,8 +111,8 @@ impl Rows<Row> {
         Ok(())
     }
 
-    /// Makes row `k` that of these numbers; every other row stands as it stood. Refused where there is no
-    /// row `k` (10), and where the numbers make no row (11); the table is then as it was.
+    /// Makes row `k` that of these numbers; every other row stands as it stood. Refused where there
+    /// is no row `k` (10), and where the numbers make no row (11); the table is then as it was.
     pub fn alter(&mut self, k: usize, numbers: Numbers) -> Result<(), Fault>
         ensures { Alters self.old k numbers result self.new }
     {
@@ -117,8 +121,8 @@ impl Rows<Row> {
         Ok(())
     }
 
-    /// Takes row `k` out; the later rows move up by one. Refused where there is no row `k` (10); the table
-    /// is then as it was.
+    /// Takes row `k` out; the later rows move up by one. Refused where there is no row `k` (10); the
+    /// table is then as it was.
     pub fn remove(&mut self, k: usize) -> Result<(), Fault>
         ensures { Removes self.old k result self.new }
     {
