@@ -1,5 +1,6 @@
 // A row of a table.
 ghost use Rattle.std.specs.Prelude.{◌≡◌, ◌≤◌, ◌↔◌, IsTrue};
+ghost use Rattle.table.specs.declared.numbers.TheConstants.Numbers.{MOST};
 
 use crate::fault::{Fault, Place};
 use crate::numbers::Numbers;
@@ -11,7 +12,7 @@ pub struct Row {
     wcet: u32,
     period: u32,
     deadline: u32,
-    ghost ok: { (1 ≤ wcet) × (wcet ≤ deadline) × (deadline ≤ period) × (period ≤ 1000000) },
+    ghost ok: { (1 ≤ wcet) × (wcet ≤ deadline) × (deadline ≤ period) × (period ≤ MOST) },
 }
 
 impl Row {

@@ -5,6 +5,7 @@ ghost use Rattle.std.specs.Prelude.{◌≡◌, ◌+◌, ◌-◌, ◌<◌, ◌≤
 ghost use Rattle.std.specs.Prelude.{IsTrue, IfSome, IfNone};
 ghost use Rattle.std.specs.Borrow.{sem, LendsIf};
 ghost use Rattle.table.specs.Places.{nth, put};
+ghost use Rattle.table.specs.declared.rows.TheConstants.{MOST_ROWS};
 
 use crate::fault::Fault;
 use crate::numbers::Numbers;
@@ -16,9 +17,9 @@ pub const MOST_ROWS: usize = 32;
 /// The rows of a table, row 1 first. What they are is a parameter, so that one row can be lent.
 #[derive(Drop)]
 pub struct Rows<X> {
-    rows: [X; 32],
+    rows: [X; MOST_ROWS],
     len: usize,
-    ghost ok: { len ≤ 32 },
+    ghost ok: { len ≤ MOST_ROWS },
 }
 
 /// A table of tasks.
@@ -60,7 +61,7 @@ impl Rows<Row> {
         ensures { view result ≡ [] }
     {
         Rows {
-            rows: [Row::FILLER; 32],
+            rows: [Row::FILLER; MOST_ROWS],
             len: 0,
         }
     }
