@@ -13,7 +13,8 @@ use Rattle.sheets.specs.Texts.{fields_in}
 
 -- the field at a place, counted from 0, has the form of its column's kind
 abbrev pub FitsAt : List Column → List (List ℕ) → ℕ → Type 0
-FitsAt columns fields j = IsOfKind (kind_of (slice_index_or columns j Processors)) (slice_index_or fields j [])
+FitsAt columns fields j =
+    IsOfKind (kind_of (slice_index_or columns j Processors)) (slice_index_or fields j [])
 
 -- the field at a place is the first that has not
 abbrev pub FirstMisfit : List Column → List (List ℕ) → ℕ → Type 0
@@ -22,7 +23,8 @@ FirstMisfit columns fields j =
 
 -- there are as many fields as columns, and each has the form of its kind
 abbrev pub Fits : List Column → List (List ℕ) → Type 0
-Fits columns fields = (length fields ≡ length columns) × ((j : ℕ) → j < length columns → FitsAt columns fields j)
+Fits columns fields =
+    (length fields ≡ length columns) × ((j : ℕ) → j < length columns → FitsAt columns fields j)
 
 -- the fault is the first of a line with these fields
 abbrev pub LineFails : ℕ → List Column → ℕ → List (List ℕ) → Fault → Type 0
@@ -43,7 +45,8 @@ LinesFail form number columns lines fault =
     ⊎ (FirstFit columns lines (length lines) × ¬ AllowedCount form (length lines)
     × (fault ≡ BadLineCount (place number (if length lines == 0 then 1 else most_of form + 2) 0)))
 
--- reading the value lines: the sheet of all of them, or the first fault; a list may have more columns than the form
+-- reading the value lines: the sheet of all of them, or the first fault; a list may have more
+-- columns than the form
 abbrev pub ReadsLines : Form → ℕ → List Column → List (List ℕ) → Result Sheet Fault → Type 0
 ReadsLines form number columns lines read =
     MatchResult read

@@ -33,7 +33,8 @@ HasTaskAt sheet name k = (1 ≤ k) × (k ≤ count_of sheet) × (task_of sheet k
 abbrev pub HasTask : Sheet → List ℕ → Type 0
 HasTask sheet name = (k : ℕ) × HasTaskAt sheet name k
 
--- question 7: the name of the k-th value line of the answer stands on the tasks sheet, and in no earlier line of the answer
+-- question 7: the name of the k-th value line of the answer stands on the tasks sheet, and in
+-- no earlier line of the answer
 abbrev pub Answers : Sheet → Sheet → ℕ → Type 0
 Answers tasks answer k = HasTask tasks (task_of answer k) × IsNewName answer k
 
@@ -49,7 +50,8 @@ EachLine question n = (k : ℕ) → 1 ≤ k → k ≤ n → question k
 abbrev pub FirstLine : (ℕ → Type 0) → ℕ → ℕ → Type 0
 FirstLine question n k = (1 ≤ k) × (k ≤ n) × ¬ question k × ((i : ℕ) → 1 ≤ i → i < k → question i)
 
--- the fault is the first: its question fails at its place, the same question in no line above, and no earlier question
+-- the fault is the first: its question fails at its place, the same question in no line above,
+-- and no earlier question
 abbrev pub PairFails : Sheet → Sheet → Fault → Type 0
 PairFails tasks answer (RepeatedTask at) =
     (k : ℕ) × (at ≡ name_place tasks k) × FirstLine (IsNewName tasks) (count_of tasks) k
@@ -62,7 +64,8 @@ PairFails tasks answer (NoAnswer at) =
     × ((k : ℕ) × (at ≡ line_place tasks k) × FirstLine (IsAnswered tasks answer) (count_of tasks) k)
 PairFails tasks answer fault = ⊥
 
--- a list has in its k-th place the row that the k-th value line of the answer names; 0 past the last one
+-- a list has in its k-th place the row that the k-th value line of the answer names; 0 past
+-- the last one
 pub record RowsNamed (tasks answer : Sheet) (rows : List ℕ) : Type 0 where
   pub size : length rows ≡ most_lines
   pub named : EachLine (λ k. HasTaskAt tasks (task_of answer k) (nth rows k 0)) (count_of answer)
@@ -77,7 +80,8 @@ Pairs tasks answer paired =
     × EachLine (IsAnswered tasks answer) (count_of tasks) × RowsNamed tasks answer rows)
     (PairFails tasks answer)
 
--- the rows that the answer names are all rows of the tasks sheet, each once: they are as many, no two are the same, and each is a row
+-- the rows that the answer names are all rows of the tasks sheet, each once: they are as
+-- many, no two are the same, and each is a row
 abbrev pub EachRowOnce : Sheet → Sheet → List ℕ → Type 0
 EachRowOnce tasks answer rows =
     (count_of answer ≡ count_of tasks)
