@@ -11,7 +11,7 @@ use Rattle.table.specs.declared.fault.Place.{Place}
 use Rattle.sheets.specs.declared.form.Column.{Column}
 use Rattle.sheets.specs.declared.form.Form.{Form}
 use Rattle.sheets.specs.declared.form.Form.TheVariants.{Board, Tasks, Answer}
-use Rattle.sheets.specs.Forms.{most_of, place}
+use Rattle.sheets.specs.Forms.{most_lines, most_of, place}
 use Rattle.sheets.specs.Reading.{AllowedCount}
 use Rattle.sheets.specs.Lines.{Fits, LineFails, FirstFit, LinesFail}
 use Rattle.sheets.specs.Texts.{fields_in}
@@ -47,7 +47,7 @@ module _ (kept : List (Bor (List ℕ))) (lines : List (List ℕ)) (n : ℕ) wher
 pub count_fails : (form : Form) (number : ℕ) (columns : List Column) (lines : List (List ℕ)) (n : ℕ) (p : Place) → FirstFit columns lines n → n ≡ length lines → (AllowedCount form n → ⊥) → p ≡ place number (cond (n == 0) 1 (most_of form + 2)) 0 → LinesFail form number columns lines (BadLineCount p)
 count_fails form number columns lines n p fit all bad is = let same = λ (m : ℕ). (FirstFit columns lines m × (AllowedCount form m → ⊥) × (BadLineCount p ≡ BadLineCount (place number (cond (m == 0) 1 (most_of form + 2)) 0))) in inr (subst same all (fit, bad, ap BadLineCount is))
 
-pub few_lines : (form : Form) → most_of form ≤ 32
+pub few_lines : (form : Form) → most_of form ≤ most_lines
 few_lines Board = omega arith
 few_lines Tasks = omega arith
 few_lines Answer = omega arith

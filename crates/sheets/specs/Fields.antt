@@ -13,12 +13,14 @@ IsNameByte byte = ((97 ≤ byte) × (byte ≤ 122)) ⊎ (IsDigit byte ⊎ (byte 
 abbrev pub IsName : List ℕ → Type 0
 IsName field = (1 ≤ length field) × (length field ≤ 16) × All IsNameByte field
 
--- the number that digits write: each digit counts by its place, the last one for itself and any other ten times as much as in the next place
+-- the number that digits write: each digit counts by its place, the last one for itself and any
+-- other ten times as much as in the next place
 unfoldable pub value : List ℕ → ℕ
 value [] = 0
 value (digit ∷ digits) = (digit - 48) * 10 ^ length digits + value digits
 
--- a field writes the number n: it is digits, of which the first is 0 only if it is alone, and their number is n and at most 1,000,000
+-- a field writes the number n: it is digits, of which the first is 0 only if it is alone, and their
+-- number is n and at most 1,000,000
 pub record Writes (field : List ℕ) (n : ℕ) : Type 0 where
   pub some : 1 ≤ length field
   pub digits : All IsDigit field

@@ -13,37 +13,42 @@ use Rattle.sheets.specs.Texts.{fields_in}
 
 -- the field at a place, counted from 0, has the form of its column's kind
 abbrev pub FitsAt : List Column → List (List ℕ) → ℕ → Type 0
-FitsAt columns fields j = IsOfKind (kind_of (slice_index_or columns j Processors)) (slice_index_or fields j [])
+FitsAt columns fields at =
+    IsOfKind (kind_of (slice_index_or columns at Processors)) (slice_index_or fields at [])
 
 -- the field at a place is the first that has not
 abbrev pub FirstMisfit : List Column → List (List ℕ) → ℕ → Type 0
-FirstMisfit columns fields j =
-    (j < length columns) × ((i : ℕ) → i < j → FitsAt columns fields i) × ¬ FitsAt columns fields j
+FirstMisfit columns fields at =
+    (at < length columns) × ((left : ℕ) → left < at → FitsAt columns fields left)
+    × ¬ FitsAt columns fields at
 
 -- there are as many fields as columns, and each has the form of its kind
 abbrev pub Fits : List Column → List (List ℕ) → Type 0
-Fits columns fields = (length fields ≡ length columns) × ((j : ℕ) → j < length columns → FitsAt columns fields j)
+Fits columns fields =
+    (length fields ≡ length columns) × ((at : ℕ) → at < length columns → FitsAt columns fields at)
 
 -- the fault is the first of a line with these fields
 abbrev pub LineFails : ℕ → List Column → ℕ → List (List ℕ) → Fault → Type 0
 LineFails number columns line fields fault =
     (¬ (length fields ≡ length columns) × (fault ≡ BadFieldCount (place number line 0)))
     ⊎ ((length fields ≡ length columns)
-    × (j : ℕ) × (fault ≡ BadField (place number line (j + 1))) × FirstMisfit columns fields j)
+    × (at : ℕ) × (fault ≡ BadField (place number line (at + 1))) × FirstMisfit columns fields at)
 
--- the first n value lines fit
+-- the first value lines fit, so many of them
 abbrev pub FirstFit : List Column → List (List ℕ) → ℕ → Type 0
-FirstFit columns lines n = (i : ℕ) → i < n → Fits columns (fields_in (slice_index_or lines i []))
+FirstFit columns lines count =
+    (at : ℕ) → at < count → Fits columns (fields_in (slice_index_or lines at []))
 
 -- the fault is the first of these value lines, which begin with line 2
 abbrev pub LinesFail : Form → ℕ → List Column → List (List ℕ) → Fault → Type 0
 LinesFail form number columns lines fault =
-    ((i : ℕ) × (i < length lines) × FirstFit columns lines i
-    × LineFails number columns (i + 2) (fields_in (slice_index_or lines i [])) fault)
+    ((at : ℕ) × (at < length lines) × FirstFit columns lines at
+    × LineFails number columns (at + 2) (fields_in (slice_index_or lines at [])) fault)
     ⊎ (FirstFit columns lines (length lines) × ¬ AllowedCount form (length lines)
     × (fault ≡ BadLineCount (place number (if length lines == 0 then 1 else most_of form + 2) 0)))
 
--- reading the value lines: the sheet of all of them, or the first fault; a list may have more columns than the form
+-- reading the value lines: the sheet of all of them, or the first fault; a list may have more
+-- columns than the form
 abbrev pub ReadsLines : Form → ℕ → List Column → List (List ℕ) → Result Sheet Fault → Type 0
 ReadsLines form number columns lines read =
     MatchResult read

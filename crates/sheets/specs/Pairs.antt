@@ -23,7 +23,8 @@ name_place sheet k = field_place sheet k Task
 
 -- question 6: the name of the k-th value line stands in no earlier one
 abbrev pub IsNewName : Sheet → ℕ → Type 0
-IsNewName sheet k = (i : ℕ) → 1 ≤ i → i < k → task_of sheet i ≢ task_of sheet k
+IsNewName sheet k =
+    (earlier : ℕ) → 1 ≤ earlier → earlier < k → task_of sheet earlier ≢ task_of sheet k
 
 -- the k-th value line has the name
 abbrev pub HasTaskAt : Sheet → List ℕ → ℕ → Type 0
@@ -33,7 +34,8 @@ HasTaskAt sheet name k = (1 ≤ k) × (k ≤ count_of sheet) × (task_of sheet k
 abbrev pub HasTask : Sheet → List ℕ → Type 0
 HasTask sheet name = (k : ℕ) × HasTaskAt sheet name k
 
--- question 7: the name of the k-th value line of the answer stands on the tasks sheet, and in no earlier line of the answer
+-- question 7: the name of the k-th value line of the answer stands on the tasks sheet, and in
+-- no earlier line of the answer
 abbrev pub Answers : Sheet → Sheet → ℕ → Type 0
 Answers tasks answer k = HasTask tasks (task_of answer k) × IsNewName answer k
 
@@ -41,15 +43,18 @@ Answers tasks answer k = HasTask tasks (task_of answer k) × IsNewName answer k
 abbrev pub IsAnswered : Sheet → Sheet → ℕ → Type 0
 IsAnswered tasks answer k = HasTask answer (task_of tasks k)
 
--- a question holds in each of n lines
+-- a question holds in each of so many lines
 abbrev pub EachLine : (ℕ → Type 0) → ℕ → Type 0
-EachLine question n = (k : ℕ) → 1 ≤ k → k ≤ n → question k
+EachLine question count = (k : ℕ) → 1 ≤ k → k ≤ count → question k
 
--- of n lines the k-th is the first in which a question fails
+-- of so many lines the k-th is the first in which a question fails
 abbrev pub FirstLine : (ℕ → Type 0) → ℕ → ℕ → Type 0
-FirstLine question n k = (1 ≤ k) × (k ≤ n) × ¬ question k × ((i : ℕ) → 1 ≤ i → i < k → question i)
+FirstLine question count k =
+    (1 ≤ k) × (k ≤ count) × ¬ question k
+    × ((earlier : ℕ) → 1 ≤ earlier → earlier < k → question earlier)
 
--- the fault is the first: its question fails at its place, the same question in no line above, and no earlier question
+-- the fault is the first: its question fails at its place, the same question in no line above,
+-- and no earlier question
 abbrev pub PairFails : Sheet → Sheet → Fault → Type 0
 PairFails tasks answer (RepeatedTask at) =
     (k : ℕ) × (at ≡ name_place tasks k) × FirstLine (IsNewName tasks) (count_of tasks) k
@@ -62,7 +67,8 @@ PairFails tasks answer (NoAnswer at) =
     × ((k : ℕ) × (at ≡ line_place tasks k) × FirstLine (IsAnswered tasks answer) (count_of tasks) k)
 PairFails tasks answer fault = ⊥
 
--- a list has in its k-th place the row that the k-th value line of the answer names; 0 past the last one
+-- a list has in its k-th place the row that the k-th value line of the answer names; 0 past
+-- the last one
 pub record RowsNamed (tasks answer : Sheet) (rows : List ℕ) : Type 0 where
   pub size : length rows ≡ most_lines
   pub named : EachLine (λ k. HasTaskAt tasks (task_of answer k) (nth rows k 0)) (count_of answer)
@@ -77,10 +83,11 @@ Pairs tasks answer paired =
     × EachLine (IsAnswered tasks answer) (count_of tasks) × RowsNamed tasks answer rows)
     (PairFails tasks answer)
 
--- the rows that the answer names are all rows of the tasks sheet, each once: they are as many, no two are the same, and each is a row
+-- the rows that the answer names are all rows of the tasks sheet, each once: they are as
+-- many, no two are the same, and each is a row
 abbrev pub EachRowOnce : Sheet → Sheet → List ℕ → Type 0
 EachRowOnce tasks answer rows =
     (count_of answer ≡ count_of tasks)
-    × ((k l : ℕ) → 1 ≤ k → k ≤ count_of answer → 1 ≤ l → l ≤ count_of answer
-    → nth rows k 0 ≡ nth rows l 0 → k ≡ l)
+    × ((k other : ℕ) → 1 ≤ k → k ≤ count_of answer → 1 ≤ other → other ≤ count_of answer
+    → nth rows k 0 ≡ nth rows other 0 → k ≡ other)
     × EachLine (λ k. (1 ≤ nth rows k 0) × (nth rows k 0 ≤ count_of tasks)) (count_of answer)

@@ -6,4 +6,5 @@ use Rattle.sheets.specs.Texts.{parts}
 -- the parts from the reader's place on; past the last part its place is one past the end
 abbrev pub left : Reader → List (List ℕ)
 left reader =
-    if nat_le reader.at (length reader.text.now) then parts reader.separator (drop reader.at reader.text.now) else []
+    if nat_le reader.at (length reader.text.now)
+    then parts reader.separator (drop reader.at reader.text.now) else []

@@ -16,7 +16,8 @@ use Rattle.sheets.specs.Texts.{line_feed, IsText}
 abbrev pub IsSized : List ℕ → Type 0
 IsSized text = (1 ≤ length text) × (length text ≤ 4096) × (nth text (length text) 0 ≡ line_feed)
 
--- Line 1 has the names of these columns, from left to right: they are as many as the form's, and each of the form's is among them, so each once.
+-- Line 1 has the names of these columns, from left to right: they are as many as the form's, and
+-- each of the form's is among them, so each once.
 pub record Heads (form : Form) (names : List (List ℕ)) (columns : List Column) : Type 0 where
   pub named : names ≡ map name_of columns
   pub size : length columns ≡ length (columns_of form)
@@ -47,12 +48,14 @@ field lines k j = nth (nth lines k []) j []
 abbrev pub SameCount : List (List (List ℕ)) → ℕ → Type 0
 SameCount lines k = length (nth lines k []) ≡ length (nth lines 1 [])
 
--- question 4: field j of line k has the form of its kind, which is that of the column whose name stands over it in line 1
+-- question 4: field j of line k has the form of its kind, which is that of the column whose name
+-- stands over it in line 1
 abbrev pub Conforms : List (List (List ℕ)) → ℕ → ℕ → Type 0
 Conforms lines k j =
-    (column : Column) → field lines 1 j ≡ name_of column → IsOfKind (kind_of column) (field lines k j)
+    (column : Column) → field lines 1 j ≡ name_of column
+    → IsOfKind (kind_of column) (field lines k j)
 
--- where question 5 fails: line 1 if there is no value line, otherwise the first line that is too many
+-- where question 5 fails: line 1 if there is no value line, otherwise the first line too many
 abbrev pub line_at_fault : Form → List (List (List ℕ)) → ℕ
 line_at_fault form lines = if length lines == 1 then 1 else most_of form + 2
 
@@ -71,32 +74,40 @@ FailsIn form number lines fault = ⊥
 -- the fault's question, one of 1 to 5, fails at the fault's place
 abbrev pub Fails : Form → ℕ → List ℕ → Fault → Type 0
 Fails form number text (BadText at) = (at ≡ place number 0 0) × ¬ IsSized text
-Fails form number text fault = (lines : List (List (List ℕ))) × IsText text lines × FailsIn form number lines fault
+Fails form number text fault =
+    (lines : List (List (List ℕ))) × IsText text lines × FailsIn form number lines fault
 
 -- 1 for question 5, which is asked when all lines are read; 0 for the others
 abbrev pub is_last : Fault → ℕ
 is_last (BadLineCount at) = 1
 is_last fault = 0
 
--- One fault comes before another: question 5 is asked last; of the others that of the line with the smaller number is asked first, and in a line that of the whole line (field 0) before those of its fields, from left to right.
+-- One fault comes before another: question 5 is asked last; of the others that of the line with the
+-- smaller number is asked first, and in a line that of the whole line (field 0) before those of its
+-- fields, from left to right.
 abbrev pub Before : Fault → Fault → Type 0
 Before one other =
     (is_last one < is_last other)
     ⊎ ((is_last one ≡ is_last other)
     × (((place_of one).line < (place_of other).line)
-    ⊎ (((place_of one).line ≡ (place_of other).line) × ((place_of one).field < (place_of other).field))))
+    ⊎ (((place_of one).line ≡ (place_of other).line)
+    × ((place_of one).field < (place_of other).field))))
 
--- the fault is the first of a text: its question fails at its place, and no question of a fault that comes before does
+-- the fault is the first of a text: its question fails at its place, and no
+-- question of a fault that comes before does
 abbrev pub IsFirst : Form → ℕ → List ℕ → Fault → Type 0
 IsFirst form number text fault =
     Fails form number text fault
     × ((other : Fault) → Before other fault → ¬ Fails form number text other)
 
--- A text is a sheet of a form, of these lines and with its columns in this order: every question holds.
-pub record IsSheet (form : Form) (text : List ℕ) (lines : List (List (List ℕ))) (columns : List Column) : Type 0 where
+-- A text is a sheet of a form, of these lines and with its columns in this order: every
+-- question holds.
+pub record IsSheet (form : Form) (text : List ℕ) (lines : List (List (List ℕ)))
+    (columns : List Column) : Type 0 where
   pub sized : IsSized text
   pub cut : IsText text lines
   pub heads : Heads form (nth lines 1 []) columns
   pub counts : (k : ℕ) → IsValueLine lines k → SameCount lines k
-  pub kinds : (k j : ℕ) → IsValueLine lines k → 1 ≤ j → j ≤ length (nth lines k []) → Conforms lines k j
+  pub kinds : (k j : ℕ) → IsValueLine lines k → 1 ≤ j → j ≤ length (nth lines k [])
+      → Conforms lines k j
   pub allowed : AllowedCount form (length lines - 1)

@@ -26,12 +26,14 @@ values_of sheet = map fields_in (lines_of sheet)
 
 -- how many columns stand to the left of one; all of them where it is none of the sheet's
 abbrev pub left_of : Sheet → Column → ℕ
-left_of sheet column = position_or_len (λ other. bytes_eq (name_of other) (name_of column)) (columns_in sheet)
+left_of sheet column =
+    position_or_len (λ other. bytes_eq (name_of other) (name_of column)) (columns_in sheet)
 
 -- the k-th value line has a field under a column
 abbrev pub HasField : Sheet → ℕ → Column → Type 0
 HasField sheet k column =
-    (1 ≤ k) × (k ≤ length (values_of sheet)) × (left_of sheet column < length (nth (values_of sheet) k []))
+    (1 ≤ k) × (k ≤ length (values_of sheet))
+    × (left_of sheet column < length (nth (values_of sheet) k []))
 
 -- the field under a column in the k-th value line; no byte where there is none
 abbrev pub field_of : Sheet → ℕ → Column → List ℕ
@@ -45,16 +47,20 @@ field_place sheet k column = place sheet.number (k + 1) (left_of sheet column + 
 abbrev pub line_place : Sheet → ℕ → Place
 line_place sheet k = place sheet.number (k + 1) 0
 
--- each value line has a field under each of the form's columns, and the field has the form of its kind
+-- each value line has a field under each of the form's columns, and the field has the form of its
+-- kind
 abbrev pub IsFull : Sheet → Type 0
 IsFull sheet =
-    (k : ℕ) (column : Column) → 1 ≤ k → k ≤ length (values_of sheet) → Contains (columns_of sheet.form) column
+    (k : ℕ) (column : Column) → 1 ≤ k → k ≤ length (values_of sheet)
+    → Contains (columns_of sheet.form) column
     → HasField sheet k column × IsOfKind (kind_of column) (field_of sheet k column)
 
--- the sheet has this form and number, its columns in this order, and all of these lines but line 1 as its value lines
+-- the sheet has this form and number, its columns in this order, and all of these lines but
+-- line 1 as its value lines
 abbrev pub Shows : Form → ℕ → List (List (List ℕ)) → List Column → Sheet → Type 0
 Shows form number lines columns sheet =
-    (sheet.form ≡ form) × (sheet.number ≡ number) × (columns_in sheet ≡ columns) × (values_of sheet ≡ drop 1 lines)
+    (sheet.form ≡ form) × (sheet.number ≡ number)
+    × (columns_in sheet ≡ columns) × (values_of sheet ≡ drop 1 lines)
 
 -- reading a text: the sheet that it is, or the first fault
 abbrev pub ReadsText : Form → ℕ → List ℕ → Result Sheet Fault → Type 0

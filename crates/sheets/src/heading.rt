@@ -1,5 +1,6 @@
 // The columns that line 1 names.
-ghost use Rattle.std.specs.Prelude.{◌≡◌, ◌+◌, ◌≤◌, ◌↔◌, ◌∷◌, length, All, Contains, IsTrue, IfSome, MatchOption};
+ghost use Rattle.std.specs.Prelude.{◌≡◌, ◌+◌, ◌≤◌, ◌↔◌, ◌∷◌, length, All, Contains};
+ghost use Rattle.std.specs.Prelude.{IsTrue, IfSome, MatchOption};
 ghost use Rattle.sheets.specs.Forms.{columns_of, first_columns};
 ghost use Rattle.sheets.specs.Readers.{left};
 ghost use Rattle.sheets.specs.Texts.{fields_in};

@@ -1,5 +1,6 @@
 // What a value line is asked.
-ghost use Rattle.std.specs.Prelude.{◌≡◌, ◌+◌, ◌<◌, ◌≤◌, ◌↔◌, [], length, slice_index_or, IsTrue, MatchOption, MatchResult};
+ghost use Rattle.std.specs.Prelude.{◌≡◌, ◌+◌, ◌<◌, ◌≤◌, ◌↔◌, [], length, slice_index_or};
+ghost use Rattle.std.specs.Prelude.{IsTrue, MatchOption, MatchResult};
 ghost use Rattle.sheets.specs.Texts.{fields_in};
 ghost use Rattle.sheets.specs.Reading.{IsOfKind};
 ghost use Rattle.sheets.specs.Lines.{FitsAt, FirstMisfit, Fits, LineFails};

@@ -1,7 +1,8 @@
 // The pairing of a tasks sheet and an answer sheet.
 ghost use Rattle.std.specs.Prelude.{◌≡◌, ◌+◌, IfOk, MatchResult};
 ghost use Rattle.sheets.specs.Sheets.{line_place};
-ghost use Rattle.sheets.specs.Pairs.{count_of, name_place, IsNewName, Answers, IsAnswered, EachLine, FirstLine, RowsNamed, EachRowOnce, Pairs};
+ghost use Rattle.sheets.specs.Pairs.{count_of, name_place, IsNewName, Answers, IsAnswered};
+ghost use Rattle.sheets.specs.Pairs.{EachLine, FirstLine, RowsNamed, EachRowOnce, Pairs};
 
 use crate::form::MOST_LINES;
 use crate::sheet::Sheet;

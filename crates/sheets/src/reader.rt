@@ -1,5 +1,6 @@
 // A reader that hands out the parts of a lent text between two bytes of a kind.
-ghost use Rattle.std.specs.Prelude.{◌≡◌, ◌==◌, ◌+◌, ◌≤◌, [], ◌∷◌, length, position, IfSome, MatchOption};
+ghost use Rattle.std.specs.Prelude.{◌≡◌, ◌==◌, ◌+◌, ◌≤◌, [], ◌∷◌, length, position};
+ghost use Rattle.std.specs.Prelude.{IfSome, MatchOption};
 ghost use Rattle.sheets.specs.declared.reader.TheConstants.{LONGEST};
 ghost use Rattle.sheets.specs.Texts.{parts};
 

@@ -1,5 +1,6 @@
 // A sheet: how a text is read as one, and the fields that it then gives.
-ghost use Rattle.std.specs.Prelude.{◌≡◌, ◌≤◌, ◌++◌, ◌∷◌, [], length, position, bytes_eq, All, MatchOption};
+ghost use Rattle.std.specs.Prelude.{◌≡◌, ◌≤◌, ◌++◌, ◌∷◌, [], length, position};
+ghost use Rattle.std.specs.Prelude.{bytes_eq, All, MatchOption};
 ghost use Rattle.sheets.specs.declared.form.TheConstants.{MOST_LINES};
 ghost use Rattle.sheets.specs.declared.reader.TheConstants.{LONGEST};
 ghost use Rattle.sheets.specs.Forms.{name_of};
@@ -56,8 +57,9 @@ impl<'a> Sheet<'a> {
     ghost use Rattle.sheets.specs.Reading.{IsFirst, IsSheet};
     ghost use Rattle.sheets.specs.Lines.{ReadsLines};
     ghost use Rattle.sheets.specs.Texts.{IsText};
-    ghost use Rattle.sheets.specs.Sheets.{columns_in, lines_of, values_of, left_of, HasField, field_of};
-    ghost use Rattle.sheets.specs.Sheets.{field_place, line_place, IsFull, ReadsText};
+    ghost use Rattle.sheets.specs.Sheets.{columns_in, lines_of, values_of, left_of};
+    ghost use Rattle.sheets.specs.Sheets.{HasField, field_of, field_place, line_place};
+    ghost use Rattle.sheets.specs.Sheets.{IsFull, ReadsText};
     ghost use Rattle.sheets.specs.Pairs.{task_of, name_place, EachLine};
 
     /// Reads a text as a sheet of the form, with any number: the places of its fields and in faults

@@ -21,4 +21,4 @@ refused fault = Err fault
 
 -- a call is refused with this fault, and what it was lent is as it was
 abbrev pub Refuses : {S A : Type 0} → Fault → S → Result A Fault → S → Type 0
-Refuses fault before r after = (r ≡ Err fault) × (after ≡ before)
+Refuses fault before reply after = (reply ≡ Err fault) × (after ≡ before)

@@ -1,12 +1,12 @@
 -- Lists by number: what stands in the k-th place, counted from 1. The number 0 names no place.
 use Rattle.std.specs.Prelude.{ℕ, zero, suc, List, slice_index_or, slice_set}
 
--- what stands in the k-th place; d where there is no such place
+-- what stands in the k-th place; the other thing where there is no such place
 unfoldable pub nth : {A : Type 0} → List A → ℕ → A → A
-nth xs zero d = d
-nth xs (suc k) d = slice_index_or xs k d
+nth list zero other = other
+nth list (suc k) other = slice_index_or list k other
 
--- the list with a in its k-th place; the list itself where there is no such place
+-- the list with another thing in its k-th place; the list itself where there is no such place
 unfoldable pub put : {A : Type 0} → List A → ℕ → A → List A
-put xs zero a = xs
-put xs (suc k) a = slice_set xs k a
+put list zero other = list
+put list (suc k) other = slice_set list k other

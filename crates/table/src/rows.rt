@@ -122,8 +122,8 @@ impl Rows<Row> {
         Ok(())
     }
 
-    /// Takes row `k` out; the later rows move up by one. Refused where there is no row `k` (10); the
-    /// table is then as it was.
+    /// Takes row `k` out; the later rows move up by one. Refused where there is no row `k` (10);
+    /// the table is then as it was.
     pub fn remove(&mut self, k: usize) -> Result<(), Fault>
         ensures { Removes self.old k result self.new }
     {

@@ -2,6 +2,7 @@ use Rattle.std.proofs.Common.{◌≡◌, ◌+◌, ◌<◌, ◌≤◌, length, sl
 use Rattle.std.proofs.lemmas.List.{length-set}
 use Rattle.table.specs.declared.fault.Fault.TheVariants.{BadAnswer}
 use Rattle.table.specs.Places.{nth}
+use Rattle.sheets.specs.declared.form.TheConstants.{MOST_LINES}
 use Rattle.sheets.specs.Pairs.{Answers, HasTaskAt, count_of, task_of}
 use Rattle.sheets.proofs.Paired.{each_more, first_line, some_line, no_line, set_here, set_there, all_zero}
 use Rattle.sheets.proofs.pairing.rows_named.Goals as goal
@@ -11,7 +12,7 @@ loop-i-init c = record {
   each = λ k low high. absurd (omega arith);
   size = refl;
   named = λ k low high. absurd (omega arith);
-  rest = λ k low. all_zero 32 k;
+  rest = λ k low. all_zero MOST_LINES k;
 }
 
 pub returns-in_default : goal.returns-in_default

@@ -6,6 +6,8 @@ use Rattle.std.proofs.lemmas.List.Elements.{All-replicate, All-set}
 use denote.Bor.{Bor}
 use Rattle.sheets.specs.Forms.{first_columns, most_of, place}
 use Rattle.sheets.specs.declared.form.Column.{Column}
+use Rattle.sheets.specs.declared.form.TheConstants.{MOST_LINES}
+use Rattle.sheets.specs.declared.reader.TheConstants.{LONGEST}
 use Rattle.sheets.specs.Lines.{Fits, LineFails}
 use Rattle.sheets.specs.Readers.{left}
 use Rattle.sheets.specs.Texts.{fields_in}
@@ -15,7 +17,7 @@ use Rattle.sheets.proofs.sheet.Sheet.read_values.Goals as goal
 use Rattle.sheets.proofs.sheet.Sheet.read_values.Goals.{then-len-lt32, else-len-lt32}
 
 abbrev Short : Bor (List ℕ) → Type 0
-Short line = length line.now ≤ 4096
+Short line = length line.now ≤ LONGEST
 
 pub loop-line-init : goal.loop-line-init
 loop-line-init c = record {
@@ -25,7 +27,7 @@ loop-line-init c = record {
   fit = λ i l. absurd (omega arith);
   long = refl;
   kept = λ _. refl;
-  short = All-replicate Short 32 _ (omega arith);
+  short = All-replicate Short MOST_LINES _ (omega arith);
 }
 
 pub returns-in_err-ask_line : goal.returns-in_err-ask_line
