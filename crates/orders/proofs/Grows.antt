@@ -99,7 +99,7 @@ module _ {meaning : Meaning} (laws : Laws meaning) (rows : List Row) (few : leng
     }
 
     -- what is open stays open farther out
-    pub out_less : (left tried : ℕ) (q : Range) → MovedOut meaning rows end r k left q → 1 ≤ tried → tried ≤ left → (Within rows (moved end q k tried) → Shut (moved end q k tried) → ⊥) → MovedOut meaning rows end r k (tried - 1) q
+    pub out_less : (left tried : ℕ) (q : Range) → MovedOut meaning rows end r k left q → 1 ≤ tried → tried ≤ left → (Shut (moved end q k tried) → ⊥) → MovedOut meaning rows end r k (tried - 1) q
     out_less left tried q out pos le opened = record {
       by = out.by;
       is = out.is;
@@ -107,8 +107,7 @@ module _ {meaning : Meaning} (laws : Laws meaning) (rows : List Row) (few : leng
       opens = λ b far near closed.
           let here : moved end q k tried ≡ moved end r k (out.by + tried) = ap (λ x. moved end x k tried) out.is ∙ moved_twice rows r within k names end out.by tried in
           let lies = moved_within rows r within k names end (out.by + tried) (omega (arith, out.inside)) in
-          opened (subst (Within rows) (sym here) lies)
-          (subst Shut (sym here) (narrowing laws rows few (moved end r k b) (moved end r k (out.by + tried)) (moved_within rows r within k names end b near) lies (moved_contains rows r within k names end (out.by + tried) b (omega arith)) closed));
+          opened (subst Shut (sym here) (narrowing laws rows few (moved end r k b) (moved end r k (out.by + tried)) (moved_within rows r within k names end b near) lies (moved_contains rows r within k names end (out.by + tried) b (omega arith)) closed));
     }
 
     pub end_grown : (left : ℕ) (q : Range) → MovedOut meaning rows end r k left q → left ≡ 0 → Shut q → EndGrown meaning rows end r k q

@@ -1,5 +1,5 @@
 -- An end of a range moved out.
-use Rattle.std.proofs.Common.{◌≡◌, ℕ, ◌+◌, ◌-◌, ◌<◌, ◌≤◌, List, length, get_or, ap, subst, ◌∙◌, inl, inr, arith}
+use Rattle.std.proofs.Common.{◌≡◌, ℕ, ◌+◌, ◌-◌, ◌<◌, ◌≤◌, List, length, get_or, set, ap, subst, ◌∙◌, inl, inr, arith}
 use Rattle.std.proofs.lemmas.List.{get_or_past}
 use Rattle.std.proofs.lemmas.Bool.{cases_eq, cases_lt}
 use Rattle.table.specs.declared.row.Row.{Row}
@@ -12,7 +12,7 @@ use Rattle.orders.specs.declared.end.End.{End}
 use Rattle.orders.specs.declared.end.End.TheVariants.{Low, High}
 use Rattle.orders.specs.Ranges.{low, high, Within, Contains}
 use Rattle.orders.specs.Growth.{with_low, with_high, moved, reach}
-use Rattle.orders.proofs.Puts.{put_same, put_twice}
+use Rattle.orders.proofs.Puts.{put_same, put_twice, put_written}
 
 -- a number above 0 stands in the list
 stands : (xs : List ℕ) (k : ℕ) → 1 ≤ k → 1 ≤ nth xs k 0 → k ≤ length xs
@@ -79,6 +79,14 @@ module _ (rows : List Row) (r : Range) (within : Within rows r) (k : ℕ) (names
 
   pub contains_by_high : (v : ℕ) → high r k ≤ v → Contains rows (with_high r k v) r
   contains_by_high v h = subst (Contains rows (with_high r k v)) (high_same r k names.0) (contains_high (high r k) v h)
+
+-- an end written in its place
+module _ (r : Range) (place by : ℕ) where
+  pub low_written : record { lows = set r.lows place (get_or r.lows place 0 - by); highs = r.highs } ≡ moved Low r (place + 1) by
+  low_written = ap (λ xs. record { lows = xs; highs = r.highs }) (put_written r.lows place 0 (λ v. v - by))
+
+  pub high_written : record { lows = r.lows; highs = set r.highs place (get_or r.highs place 0 + by) } ≡ moved High r (place + 1) by
+  high_written = ap (λ xs. record { lows = r.lows; highs = xs }) (put_written r.highs place 0 (λ v. v + by))
 
 -- what the code reads of a row and of its low or high
 module _ {shown rows : List Row} (same : shown ≡ rows) {place : ℕ} {one : Row} (is : one ≡ get_or shown place one) (r : Range) (within : Within rows r) (inside : place < length rows) where

@@ -9,9 +9,10 @@ ghost use Rattle.orders.specs.Ranges.{Within};
 ghost use Rattle.orders.specs.Relations.{Relations};
 
 use crate::range::Range;
+use crate::table_range::TableRange;
 use bounds::{Question, Test};
 use std::array;
-use table::{Row, Table};
+use table::Table;
 
 /// Whether this is a range of the table.
 pub fn is_range(table: &Table, range: &Range) -> bool
@@ -108,26 +109,35 @@ impl<T: Test> Assigner<'_, T> {
 
 // What a row's high must be for its task to be placed once no other task passes, or none if it is late then. The
 // lower levels are filled by the other tasks as far as they pass.
-pub(crate) fn high_wanted<T: Test>(
-    test: &T,
-    table: &Table,
-    range: &Range,
-    place: usize,
-) -> Option<u32>
-    requires { place < length (view table.now) }
+pub(crate) fn high_wanted<T: Test>(test: &T, range: &TableRange<'_>, place: usize) -> Option<u32>
+    requires { place < length (view range.now.table.now) }
 {
-    let mut others = *range;
+    let mut others = range.ends;
     // No answer is 0, so the task itself does not pass.
     others.highs[place] = 0;
     let assigner = Assigner {
         test,
-        table,
+        table: range.table,
         range: &others,
     };
-    let mut left = all_tasks(table.len());
+    let mut left = all_tasks(range.table.len());
     // They end with none.
     assigner.fill_levels(&mut left);
     assigner.answer(&left, place + 1)
+}
+
+// The assigner's order for a range of the table, if it finds one.
+pub(crate) fn find_order<T: Test>(test: &T, range: &TableRange<'_>) -> Option<[usize; 32]>
+    ensures rule { Assigns (T.answer test.now) (view range.now.table.now) range.now.ends result }
+    ensures decides { FindsIfOpen (T.answer test.now) (view range.now.table.now) range.now.ends result }
+    ensures lowest { FillsLowest (T.answer test.now) (view range.now.table.now) range.now.ends result }
+{
+    let assigner = Assigner {
+        test,
+        table: range.table,
+        range: &range.ends,
+    };
+    assigner.fill_levels(&mut all_tasks(range.table.len()))
 }
 
 /// An order that passes the range, the highest task first, if there is one. Levels are filled from
@@ -138,9 +148,6 @@ pub fn assign<T: Test>(test: &T, table: &Table, range: &Range) -> Option<[usize;
     ensures lowest { FillsLowest (T.answer test.now) (view table.now) range.now result }
     ensures relations { Relations (T.answer test.now) (view table.now) }
 {
-    if !is_range(table, range) {
-        return None;
-    }
-    let assigner = Assigner { test, table, range };
-    assigner.fill_levels(&mut all_tasks(table.len()))
+    let range = TableRange::new(table, range)?;
+    find_order(test, &range)
 }
