@@ -30,7 +30,7 @@ impl<'a, T: Test> ClosedRange<'a, T> {
             IfErr result (λ order.
             Assigns (T.answer test.now) rows r (Some order)
             × FillsLowest (T.answer test.now) rows r (Some order)
-            × (Closed (T.answer test.now) rows r → ⊥)) }
+            × ¬ Closed (T.answer test.now) rows r) }
     {
         match find_order(test, &range) {
             None => Ok(ClosedRange { test, range }),
@@ -38,9 +38,10 @@ impl<'a, T: Test> ClosedRange<'a, T> {
         }
     }
 
-    // How far an end is tried to be moved out in a round, with this much left: first all of it. A high is tried in
-    // round 1 at the last value at which its task would not be placed, or as near to it as may be, and in round 2 one
-    // further out than it then stands. In any other round half of what is left is tried.
+    // How far an end is tried to be moved out in a round, with this much left: first all of it. A
+    // high is tried in round 1 at the last value at which its task would not be placed, or as near
+    // to it as may be, and in round 2 one further out than it then stands. In any other round half
+    // of what is left is tried.
     fn tried_in(&self, round: u32, end: End, place: usize, left: u32) -> u32
         requires place { place < length (view self.now.range.table.now) }
         requires left { 1 ≤ left }
@@ -73,7 +74,8 @@ impl<'a, T: Test> ClosedRange<'a, T> {
         ensures test { result.test.now ≡ self.entry.test.now }
         ensures table { result.range.table.now ≡ self.entry.range.table.now }
         ensures grown { let rows = view self.entry.range.table.now in
-            EndGrown (T.answer self.entry.test.now) rows end self.entry.range.ends (place + 1) result.range.ends }
+            let before = self.entry.range.ends in
+            EndGrown (T.answer self.entry.test.now) rows end before (place + 1) result.range.ends }
     {
         let mut grown = self;
         let mut left = grown.range.reach(end, place);

@@ -11,8 +11,8 @@ use crate::table_range::TableRange;
 use bounds::Test;
 use table::Table;
 
-/// The order that `assign` gives, if it gives one, or else the range that `grow` gives. The assigner
-/// is asked about the range once.
+/// The order that `assign` gives, if it gives one, or else the range that `grow` gives. The
+/// assigner is asked about the range once.
 pub fn settle<T: Test>(test: &T, table: &Table, range: &Range) -> Settled
     ensures order { Assigns (T.answer test.now) (view table.now) range.now (order_of result) }
     ensures decides { FindsIfOpen (T.answer test.now) (view table.now) range.now (order_of result) }

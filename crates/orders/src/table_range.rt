@@ -20,7 +20,7 @@ pub(crate) struct TableRange<'a> {
 impl<'a> TableRange<'a> {
     // The range, if it is one of the table.
     pub(crate) fn new(table: &'a Table, range: &Range) -> Option<Self>
-        ensures { MatchOption result (Within (view table.now) range.now → ⊥)
+        ensures { MatchOption result (¬ Within (view table.now) range.now)
             (λ q. (q.table.now ≡ table.now) × (q.ends ≡ range.now)) }
     {
         if !is_range(table, range) {
