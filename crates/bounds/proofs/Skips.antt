@@ -7,7 +7,7 @@ use Rattle.table.specs.Places.{nth}
 use Rattle.bounds.specs.declared.tally.Tally.{Tally}
 use Rattle.bounds.specs.Loads.{cap_of}
 use Rattle.bounds.specs.Responses.{least_fit}
-use Rattle.bounds.specs.Climbs.{capped_total, Uncapped, Tallied, NoneDo}
+use Rattle.bounds.specs.Climbs.{capped_total, Uncapped, Tallied, NoneFit}
 use Rattle.bounds.specs.Sums.{sum_mono}
 use Rattle.bounds.proofs.Summing.{sum_add, total_constant}
 use Rattle.bounds.proofs.Firsts.{least_found, least_missing}
@@ -91,7 +91,7 @@ module _ (m : ℕ) (pos : 0 < m) (i : Row) (load : ℕ → ℕ) (y : ℕ) (from 
   pub passed_all : cap_of i i.deadline < y → least_fit m i load ≡ None
   passed_all past = least_missing _ i.wcet (i.deadline - i.wcet + 1) (λ l low high. passed l low (omega (arith, i.ok)))
 
-  pub passed_more : (loads : List ℕ) (z : ℕ) → Uncapped load i (i.wcet + y - 1) loads → NoneDo loads m y z → Passed m i load z
+  pub passed_more : (loads : List ℕ) (z : ℕ) → Uncapped load i (i.wcet + y - 1) loads → NoneFit loads m y z → Passed m i load z
   passed_more loads z holds none l low high =
       elim (cases_lt (cap_of i l) y) [
         | inl before ↦ passed l low before
@@ -110,5 +110,5 @@ module _ (m : ℕ) (pos : 0 < m) (i : Row) (load : ℕ → ℕ) (y : ℕ) (from 
         let sum : load l ≡ t.sum = sym holds_here.here ∙ ap (capped_total loads 32) cap ∙ sym tallied.sum in
         ap (λ w. Some (w + y - 1)) we ∙ sym (climbed in' (omega (arith, sum, h)))
 
-    pub turn_passed : (z : ℕ) → NoneDo loads m y z → Passed m i load z
+    pub turn_passed : (z : ℕ) → NoneFit loads m y z → Passed m i load z
     turn_passed z none = passed_more loads z holds_here none

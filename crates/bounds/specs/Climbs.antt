@@ -21,30 +21,40 @@ climbs m limit = answer_by m (loads limit)
 abbrev pub Lists : (ℕ → ℕ) → List ℕ → Type 0
 Lists f xs = (k : ℕ) → 1 ≤ k → k ≤ 32 → nth xs k 0 ≡ f k
 
--- the work of task k in a window, before the cap, with its estimate if it carries load in; 0 if it is not above
+-- the work of task k in a window, before the cap, with its estimate if it carries load in; 0 if it is
+-- not above
 abbrev pub work_at : Asked → ℕ → Bool → ℕ → ℕ
 work_at q l carries k =
     cond (nth q.above k false)
-    (cond carries (work (row q.rows k) (l + nth q.estimates k 0 - (row q.rows k).wcet)) (work (row q.rows k) l))
+    (cond carries (work (row q.rows k) (l + nth q.estimates k 0 - (row q.rows k).wcet))
+    (work (row q.rows k) l))
     0
 
 -- the loads of a list in all, each held to a cap
 abbrev pub capped_total : List ℕ → ℕ → ℕ → ℕ
 capped_total uncapped n y = sum_to (λ k. min (nth uncapped k 0) y) n
 
--- at most c of 32 places are chosen, each with a number above 0, and no other such choice has a greater total
+-- at most c of 32 places are chosen, each with a number above 0, and no other such choice has a
+-- greater total
 pub record Picked (numbers : List ℕ) (c : ℕ) (chosen : List Bool) : Type 0 where
   pub positive : (k : ℕ) → In chosen k → (1 ≤ k) × (k ≤ 32) × (0 < nth numbers k 0)
   pub few : sum_over chosen (λ _. 1) 32 ≤ c
-  pub best : (other : ℕ → Bool) → total_of other (λ _. 1) 32 ≤ c → total_of other (λ k. nth numbers k 0) 32 ≤ sum_over chosen (λ k. nth numbers k 0) 32
+  pub best :
+      (other : ℕ → Bool) → total_of other (λ _. 1) 32 ≤ c
+      → total_of other (λ k. nth numbers k 0) 32 ≤ sum_over chosen (λ k. nth numbers k 0) 32
 
 -- the place, from 0, of the greatest number among those not chosen; none if these are all 0
 abbrev pub GreatestLeft : List ℕ → List Bool → Option ℕ → Type 0
 GreatestLeft numbers chosen best =
-    MatchOption best ((j : ℕ) → j < 32 → slice_index_or chosen j false ≡ false → slice_index numbers j ≡ 0)
-    (λ p. (p < 32) × (slice_index_or chosen p false ≡ false) × (0 < slice_index numbers p) × ((j : ℕ) → j < 32 → slice_index_or chosen j false ≡ false → slice_index numbers j ≤ slice_index numbers p))
+    MatchOption best
+    ((j : ℕ) → j < 32 → slice_index_or chosen j false ≡ false → slice_index numbers j ≡ 0)
+    (λ p.
+    (p < 32) × (slice_index_or chosen p false ≡ false) × (0 < slice_index numbers p)
+    × ((j : ℕ) → j < 32 → slice_index_or chosen j false ≡ false
+    → slice_index numbers j ≤ slice_index numbers p))
 
--- loads before the cap, which in a window l make up its load, and in any longer window no more than its load
+-- loads before the cap, which in a window l make up its load, and in any longer window no more than
+-- its load
 pub record Uncapped (load : ℕ → ℕ) (i : Row) (l : ℕ) (uncapped : List ℕ) : Type 0 where
   pub here : capped_total uncapped 32 (cap_of i l) ≡ load l
   pub later : (l' : ℕ) → l ≤ l' → capped_total uncapped 32 (cap_of i l') ≤ load l'
@@ -55,7 +65,8 @@ NeverFalls load = (l l' : ℕ) → l ≤ l' → load l ≤ load l'
 
 -- none of the first n loads that are above y is below b
 abbrev pub NoneBelow : List ℕ → ℕ → ℕ → ℕ → Type 0
-NoneBelow uncapped n y b = (k : ℕ) → 1 ≤ k → k ≤ n → y < nth uncapped k 0 → b ≤ nth uncapped k 0
+NoneBelow uncapped n y b =
+    (k : ℕ) → 1 ≤ k → k ≤ n → y < nth uncapped k 0 → b ≤ nth uncapped k 0
 
 -- the tally of the first n loads of a list at a cap y
 pub record Tallied (uncapped : List ℕ) (n y : ℕ) (t : Tally) : Type 0 where
@@ -64,9 +75,9 @@ pub record Tallied (uncapped : List ℕ) (n y : ℕ) (t : Tally) : Type 0 where
   pub least : NoneBelow uncapped n y t.least
   pub rest : t.rest ≡ sum_to (λ k. cond (nat_lt y (nth uncapped k 0)) 0 (nth uncapped k 0)) n
 
--- no cap from y on and below z can do: at each, the loads make up at least m times the cap
-abbrev pub NoneDo : List ℕ → ℕ → ℕ → ℕ → Type 0
-NoneDo uncapped m y z = (x : ℕ) → y ≤ x → x < z → m * x ≤ capped_total uncapped 32 x
+-- no cap from y on and below z can fit: at each, the loads make up at least m times the cap
+abbrev pub NoneFit : List ℕ → ℕ → ℕ → ℕ → Type 0
+NoneFit uncapped m y z = (x : ℕ) → y ≤ x → x < z → m * x ≤ capped_total uncapped 32 x
 
 -- a tally of 32 loads at a cap of at most 1,000,000
 abbrev pub Limited : Tally → Type 0

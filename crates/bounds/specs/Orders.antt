@@ -37,10 +37,12 @@ wcet_list rows = map (λ (r : Row). r.wcet) rows
 abbrev pub wcets : List Row → List ℕ
 wcets rows = padded (wcet_list rows)
 
--- the estimates once the first p tasks of an order have their bounds: these bounds, and C for every other row
+-- the estimates once the first p tasks of an order have their bounds: these bounds, and C for every
+-- other row
 unfoldable pub estimated : List Row → List ℕ → List ℕ → ℕ → List ℕ
 estimated rows order bounds zero = wcets rows
-estimated rows order bounds (suc p) = put (estimated rows order bounds p) (task_at order p) (nth bounds (task_at order p) 0)
+estimated rows order bounds (suc p) =
+    put (estimated rows order bounds p) (task_at order p) (nth bounds (task_at order p) 0)
 
 -- nothing is found exactly when this holds
 abbrev pub NoneWhen : {A : Type 0} → Option A → Type 0 → Type 0
@@ -67,17 +69,22 @@ module _ (meaning : Meaning) (rows : List Row) where
 
   -- none of the first p tasks of an order is late, and these are their bounds, by row number
   abbrev pub Bounded : List ℕ → List ℕ → ℕ → Type 0
-  Bounded order bounds p = (q : ℕ) → q < p → answer_at order bounds q ≡ Some (nth bounds (task_at order q) 0)
+  Bounded order bounds p =
+      (q : ℕ) → q < p → answer_at order bounds q ≡ Some (nth bounds (task_at order q) 0)
 
   -- the first late task of an order is the one with p tasks above it
   abbrev pub LateAt : List ℕ → List ℕ → ℕ → Type 0
-  LateAt order bounds p = (p < length order) × Bounded order bounds p × (answer_at order bounds p ≡ None)
+  LateAt order bounds p =
+      (p < length order) × Bounded order bounds p × (answer_at order bounds p ≡ None)
 
-  -- the bounds of an order, found from the top down: each row's bound in its place, and 0 for the first late task and all below it
+  -- the bounds of an order, found from the top down: each row's bound in its place, and 0 for the first
+  -- late task and all below it
   abbrev pub Found : List ℕ → Option ℕ → List ℕ → Type 0
   Found order late bounds =
       MatchOption late (Bounded order bounds (length order))
-      (λ k. (p : ℕ) × LateAt order bounds p × (task_at order p ≡ k) × ((q : ℕ) → p ≤ q → q < length order → nth bounds (task_at order q) 0 ≡ 0))
+      (λ k.
+      (p : ℕ) × LateAt order bounds p × (task_at order p ≡ k)
+      × ((q : ℕ) → p ≤ q → q < length order → nth bounds (task_at order q) 0 ≡ 0))
 
   -- an order holds: from the top down no task is late, with the bounds found so far as estimates
   abbrev pub Holds : List ℕ → Type 0
@@ -87,31 +94,44 @@ module _ (meaning : Meaning) (rows : List Row) where
   abbrev pub HasLate : List ℕ → Type 0
   HasLate order = (bounds : List ℕ) × (p : ℕ) × LateAt order bounds p
 
-  -- analyse: the bounds of the order and its first late task; there is none exactly when the order holds
+  -- analyse: the bounds of the order and its first late task; there is none exactly when the order
+  -- holds
   abbrev pub Analyses : List ℕ → List ℕ → Result (Option ℕ) Fault → List ℕ → Type 0
   Analyses order before r after =
       Asks (1 ≤ length rows) (Refuses Empty before r after)
       (Asks (Order rows order) (Refuses (BadOrder nowhere) before r after)
       (Asks (length before ≡ length rows) (Refuses BadLength before r after)
-      ((late : Option ℕ) × (r ≡ Ok late) × Found order late after × (length after ≡ length before) × NoneWhen late (Holds order))))
+      ((late : Option ℕ) × (r ≡ Ok late) × Found order late after
+      × (length after ≡ length before) × NoneWhen late (Holds order))))
 
-  -- the answer of the task that has p tasks above it, with these estimates, is at most its own estimate
+  -- the answer of the task that has p tasks above it, with these estimates, is at most its own
+  -- estimate
   abbrev pub MeetsAt : List ℕ → List ℕ → ℕ → Type 0
-  MeetsAt order estimates p = NoMore (answer_with order (padded estimates) p) (Some (nth estimates (task_at order p) 0))
+  MeetsAt order estimates p =
+      NoMore (answer_with order (padded estimates) p) (Some (nth estimates (task_at order p) 0))
 
-  -- the first task from the top whose answer is late or above its estimate, with that answer; or none
+  -- the first task from the top whose answer is late or above its estimate, with that answer; or
+  -- none
   abbrev pub FirstMiss : List ℕ → List ℕ → Option Miss → Type 0
   FirstMiss order estimates miss =
       MatchOption miss ((p : ℕ) → p < length order → MeetsAt order estimates p)
-      (λ x. (p : ℕ) × (p < length order) × (task_at order p ≡ x.task) × (answer_with order (padded estimates) p ≡ x.bound) × ¬ MeetsAt order estimates p × ((q : ℕ) → q < p → MeetsAt order estimates q))
+      (λ x.
+      (p : ℕ) × (p < length order) × (task_at order p ≡ x.task)
+      × (answer_with order (padded estimates) p ≡ x.bound)
+      × ¬ MeetsAt order estimates p × ((q : ℕ) → q < p → MeetsAt order estimates q))
 
-  -- an order passes lows and highs, by row: each task's answer, with the lows as estimates, is at most its high
+  -- an order passes lows and highs, by row: each task's answer, with the lows as estimates, is at most
+  -- its high
   abbrev pub PassesBy : List ℕ → List ℕ → List ℕ → Type 0
-  PassesBy lows highs order = (p : ℕ) → p < length order → NoMore (answer_with order lows p) (Some (nth highs (task_at order p) 0))
+  PassesBy lows highs order =
+      (p : ℕ) → p < length order
+      → NoMore (answer_with order lows p) (Some (nth highs (task_at order p) 0))
 
-  -- check: the first task of the order that misses its estimate; there is none exactly when the order passes the estimates as lows and highs
+  -- check: the first task of the order that misses its estimate; there is none exactly when the order
+  -- passes the estimates as lows and highs
   abbrev pub Checks : List ℕ → List ℕ → Result (Option Miss) Fault → Type 0
   Checks order estimates r =
       Asks (1 ≤ length rows) (r ≡ Err Empty)
       (Asks (Order rows order × Estimates rows estimates) (r ≡ Err (BadOrder nowhere))
-      ((miss : Option Miss) × (r ≡ Ok miss) × FirstMiss order estimates miss × NoneWhen miss (PassesBy (padded estimates) (padded estimates) order)))
+      ((miss : Option Miss) × (r ≡ Ok miss) × FirstMiss order estimates miss
+      × NoneWhen miss (PassesBy (padded estimates) (padded estimates) order)))

@@ -18,9 +18,11 @@ pub record Asked : Type 0 where
 
 -- the question of these parts
 abbrev pub question : List Row → ℕ → List Bool → List ℕ → Asked
-question rows task above estimates = record { rows = rows; task = task; above = above; estimates = estimates }
+question rows task above estimates =
+    record { rows = rows; task = task; above = above; estimates = estimates }
 
--- what a test means: the answer that it has for every question, a bound, or none where the task is late
+-- what a test means: the answer that it has for every question, a bound, or none where the task is
+-- late
 abbrev pub Meaning : Type 0
 Meaning = Asked → Option ℕ
 
@@ -32,7 +34,8 @@ own q = row q.rows q.task
 abbrev pub Lies : Row → ℕ → Type 0
 Lies r estimate = (r.wcet ≤ estimate) × (estimate ≤ r.deadline)
 
--- A question is sound if its task is in the table, the tasks above, of the 32 places that a set has, are in the table without it, and each estimate lies from its row's C to its D.
+-- A question is sound if its task is in the table, the tasks above, of the 32 places that a set has,
+-- are in the table without it, and each estimate lies from its row's C to its D.
 pub record Sound (q : Asked) : Type 0 where
   pub few : length q.rows ≤ 32
   pub names : Names q.rows q.task
@@ -101,4 +104,5 @@ pub record Laws (meaning : Meaning) : Type 0 where
 
 -- a question as it is put to a test
 abbrev pub asked : Question → Asked
-asked q = record { rows = view q.table.now; task = q.task; above = q.above.now; estimates = q.estimates.now }
+asked q =
+    record { rows = view q.table.now; task = q.task; above = q.above.now; estimates = q.estimates.now }

@@ -11,15 +11,20 @@ unfoldable pub least_from : (ℕ → Bool) → ℕ → ℕ → Option ℕ
 least_from p k zero = None
 least_from p k (suc n) = cond (p k) (Some k) (least_from p (k + 1) n)
 
--- the least window l from C to D of a task with C + floor(S(l) / m) ≤ l, where S is the load in each window; none if there is none
+-- the least window l from C to D of a task with C + floor(S(l) / m) ≤ l, where S is the load in each
+-- window; none if there is none
 abbrev pub least_fit : ℕ → Row → (ℕ → ℕ) → Option ℕ
-least_fit m i load = least_from (λ l. nat_le (i.wcet + load l / m) l) i.wcet (i.deadline - i.wcet + 1)
+least_fit m i load =
+    least_from (λ l. nat_le (i.wcet + load l / m) l) i.wcet (i.deadline - i.wcet + 1)
 
--- what it is to be that window: it fits and lies from C to D, and none before it fits; or none from C to D fits
+-- what it is to be that window: it fits and lies from C to D, and none before it fits; or none from C
+-- to D fits
 abbrev pub Least : ℕ → Row → (ℕ → ℕ) → Option ℕ → Type 0
 Least m i load r =
-    MatchOption r ((l : ℕ) → i.wcet ≤ l → l ≤ i.deadline → i.wcet + load l / m ≤ l → ⊥)
-    (λ b. (i.wcet ≤ b) × (b ≤ i.deadline) × (i.wcet + load b / m ≤ b) × ((l : ℕ) → i.wcet ≤ l → l < b → i.wcet + load l / m ≤ l → ⊥))
+    MatchOption r ((l : ℕ) → i.wcet ≤ l → l ≤ i.deadline → ¬ (i.wcet + load l / m ≤ l))
+    (λ b.
+    (i.wcet ≤ b) × (b ≤ i.deadline) × (i.wcet + load b / m ≤ b)
+    × ((l : ℕ) → i.wcet ≤ l → l < b → ¬ (i.wcet + load l / m ≤ l)))
 
 -- the answer by a load: the least window that fits it; an unsound question is late
 abbrev pub answer_by : ℕ → (Asked → ℕ → ℕ) → Meaning
@@ -43,7 +48,8 @@ pub record Choice (set : List Bool) (c n : ℕ) (chosen : ℕ → Bool) : Type 0
   pub inside : (k : ℕ) → chosen k ≡ true → In set k
   pub few : total_of chosen (λ _. 1) n ≤ c
 
--- x is the greatest total of f over any choice of at most c tasks of a set: some choice reaches it, and none exceeds it
+-- x is the greatest total of f over any choice of at most c tasks of a set: some choice reaches it,
+-- and none exceeds it
 pub record Greatest (set : List Bool) (f : ℕ → ℕ) (c n x : ℕ) : Type 0 where
   pub reached : (chosen : ℕ → Bool) × Choice set c n chosen × (total_of chosen f n ≡ x)
   pub exceeded : (chosen : ℕ → Bool) → Choice set c n chosen → total_of chosen f n ≤ x
@@ -51,7 +57,9 @@ pub record Greatest (set : List Bool) (f : ℕ → ℕ) (c n x : ℕ) : Type 0 w
 -- that greatest total, computed: with or without the last row
 unfoldable pub greatest : List Bool → (ℕ → ℕ) → ℕ → ℕ → ℕ
 greatest set f c zero = 0
-greatest set f c (suc n) = max (greatest set f c n) (cond (nth set (suc n) false && nat_lt 0 c) (greatest set f (c - 1) n + f (suc n)) 0)
+greatest set f c (suc n) =
+    max (greatest set f c n)
+    (cond (nth set (suc n) false && nat_lt 0 c) (greatest set f (c - 1) n + f (suc n)) 0)
 
 -- the plain loads of the tasks above in a window
 abbrev pub plain_loads : Asked → ℕ → ℕ
@@ -59,9 +67,11 @@ plain_loads q l = sum_over q.above (λ k. plain (own q) l (row q.rows k)) (lengt
 
 -- what task k adds to its plain load in a window if it carries load in
 abbrev pub extra : Asked → ℕ → ℕ → ℕ
-extra q l k = carried (own q) l (row q.rows k) (nth q.estimates k 0) - plain (own q) l (row q.rows k)
+extra q l k =
+    carried (own q) l (row q.rows k) (nth q.estimates k 0) - plain (own q) l (row q.rows k)
 
--- lc's load in a window: the plain loads plus the greatest total of what at most c tasks add by carrying load in
+-- lc's load in a window: the plain loads plus the greatest total of what at most c tasks add by
+-- carrying load in
 abbrev pub limited_load : ℕ → Asked → ℕ → ℕ
 limited_load c q l = plain_loads q l + greatest q.above (extra q l) c (length q.rows)
 
@@ -69,7 +79,8 @@ limited_load c q l = plain_loads q l + greatest q.above (extra q l) c (length q.
 abbrev pub lc : ℕ → Meaning
 lc m = answer_by m (limited_load (m - 1))
 
--- lc's answer to a sound question is the least window that fits the plain loads plus the greatest total of what a choice of at most m − 1 tasks above adds
+-- lc's answer to a sound question is the least window that fits the plain loads plus the greatest
+-- total of what a choice of at most m − 1 tasks above adds
 abbrev pub LcMeaning : Type 0
 LcMeaning =
     (m : ℕ) (q : Asked) → Sound q →

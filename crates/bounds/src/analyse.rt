@@ -34,10 +34,10 @@ fn find_bounds<T: Test>(test: &T, ordered: &Ordered<'_>, bounds: &mut [u32]) -> 
     None
 }
 
-/// Finds the bounds of the order's tasks from the top down, writes row `k`'s in place `k`, and 0 for
-/// the first late task and all below it. The answer is the first late task, if there is one. Refused where
-/// the table has no row (13), the list is no order of its rows (17), or the list for the bounds has not one
-/// place a row (18); the bounds are then as they were.
+/// Finds the bounds of the order's tasks from the top down, writes row `k`'s in place `k`, and 0
+/// for the first late task and all below it. The answer is the first late task, if there is one.
+/// Refused where the table has no row (13), the list is no order of its rows (17), or the list for
+/// the bounds has not one place a row (18); the bounds are then as they were.
 pub fn analyse<T: Test>(
     test: &T,
     table: &Table,

@@ -52,9 +52,9 @@ fn first_miss<T: Test>(test: &T, ordered: &Ordered<'_>, estimates: &[u32]) -> Op
     None
 }
 
-/// Checks an order and an estimate for each row, in its place. The answer is the first task from the
-/// top whose own answer is late or above its estimate, with that answer, if there is one. Refused where the
-/// table has no row (13), or the lists are no order and estimates of its rows (17).
+/// Checks an order and an estimate for each row, in its place. The answer is the first task from
+/// the top whose own answer is late or above its estimate, with that answer, if there is one.
+/// Refused where the table has no row (13), or the lists are no order and estimates of its rows (17).
 pub fn check<T: Test>(
     test: &T,
     table: &Table,

@@ -35,7 +35,8 @@ fn least_window(m: Processors, limit: Option<u32>, q: &Posed<'_>) -> Option<u32>
     None
 }
 
-// The answer of a test that climbs. `limit` is how many of the tasks above may carry load in; without it all may.
+// The answer of a test that climbs. `limit` is how many of the tasks above may carry load in;
+// without it all may.
 pub(crate) fn answer_by_climb(m: Processors, limit: Option<u32>, q: &Question<'_>) -> Option<u32>
     ensures { result ≡ climbs m.count limit (asked q.now) }
 {

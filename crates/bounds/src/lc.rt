@@ -1,4 +1,5 @@
-// The response-time analysis with limited carry-in: fewer tasks carry load in than there are processors.
+// The response-time analysis with limited carry-in: fewer tasks carry load in than there are
+// processors.
 ghost use Rattle.std.specs.Prelude.{◌≡◌};
 ghost use Rattle.bounds.specs.Questions.{LateIfUnsound};
 ghost use Rattle.bounds.specs.Responses.{lc as answered, LcMeaning};

@@ -9,7 +9,8 @@ use crate::rta::Rta;
 use crate::test::Test;
 use table::{Fault, Place};
 
-/// One of the three tests. Their cases have names of their own, since `Da`, `Rta` and `Lc` are the tests.
+/// One of the three tests. Their cases have names of their own, since `Da`, `Rta` and `Lc` are the
+/// tests.
 #[derive(Clone, Copy, PartialEq, Eq, Debug)]
 pub enum NamedTest {
     ByDeadline(Da),
@@ -27,7 +28,8 @@ impl NamedTest {
         matches!(name, b"da" | b"rta" | b"lc")
     }
 
-    /// The test of this name on so many processors, or a refusal where there is none of the name (12).
+    /// The test of this name on so many processors, or a refusal where there is none of the name
+    /// (12).
     pub fn new(name: &[u8], processors: Processors) -> Result<NamedTest, Fault>
         ensures { MadeNamed name.now processors result }
     {

@@ -66,7 +66,8 @@ impl Window<'_> {
         self.work_with(row, estimate).min(self.cap())
     }
 
-    // The work of the task at a place, with its estimate if it carries load in; 0 if it is not above.
+    // The work of the task at a place, with its estimate if it carries load in; 0 if it is not
+    // above.
     fn work_of(&self, place: usize, carries: bool) -> u32
         requires place { place < 32 }
         ensures { result ≡ work_at (question_of self.now.posed) self.now.length carries (place + 1) }
@@ -90,7 +91,8 @@ impl Window<'_> {
         array::from_fn(|place| self.work_of(place, carries))
     }
 
-    // At most `limit` of the loads are carried and the others plain; without a limit all are carried.
+    // At most `limit` of the loads are carried and the others plain; without a limit all are
+    // carried.
     pub(crate) fn uncapped_loads(&self, limit: Option<u32>) -> [u32; 32]
         ensures { let q = question_of self.now.posed in Uncapped (loads limit q) (own q) self.now.length result }
     {

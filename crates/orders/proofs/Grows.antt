@@ -4,16 +4,15 @@ use Rattle.std.proofs.Math.Nat.{pow-succ'}
 use Rattle.std.proofs.lemmas.Bool.{cases_eq, cases_lt}
 use Rattle.table.specs.declared.row.Row.{Row}
 use Rattle.table.specs.Rows.{Names}
-use Rattle.table.proofs.Placed.{nth_put_other}
 use Rattle.bounds.specs.Questions.{Meaning, Laws}
 use Rattle.orders.specs.declared.range.Range.{Range}
 use Rattle.orders.specs.declared.end.End.{End}
 use Rattle.orders.specs.declared.end.End.TheVariants.{Low, High}
-use Rattle.orders.specs.Ranges.{low, high, Within, Contains, Open, Closed}
+use Rattle.orders.specs.Ranges.{Within, Contains, Open, Closed}
 use Rattle.orders.specs.Assigner.{assigned}
-use Rattle.orders.specs.Growth.{with_low, with_high, moved, reach, LowGrown, HighGrown, EndGrown, GrownTo, start, next, Maximal}
+use Rattle.orders.specs.Growth.{moved, reach, EndGrown, GrownTo, start, next, Maximal}
 use Rattle.orders.proofs.Audsley.{decided}
-use Rattle.orders.proofs.Moves.{low_here, high_here, within_low, within_high, contains_by_low, contains_by_high, moved_within, moved_contains, moved_none, moved_twice, reach_moved, reach_short}
+use Rattle.orders.proofs.Moves.{moved_within, moved_wider, moved_inside, moved_contains, moved_none, moved_twice, reach_moved, reach_short, reach_wider}
 use Rattle.orders.proofs.Narrows.{narrowing}
 
 -- what is left after round n of 20 that each halve it
@@ -55,23 +54,6 @@ module _ {meaning : Meaning} (laws : Laws meaning) (rows : List Row) (few : leng
   pub open_or_closed : (r : Range) → Open meaning rows r ⊎ Shut r
   open_or_closed r = by_answer r (assigned meaning rows r) refl
 
-  -- an end is grown once nothing is left
-  grown_at : (end : End) (r : Range) → Within rows r → (k : ℕ) → Names rows k → (q : Range) → MovedOut meaning rows end r k 0 q → Shut q → EndGrown meaning rows end r k q
-  grown_at Low r within k names q out shut = record {
-    value = low r k - out.by;
-    is = out.is;
-    least = omega (arith, out.inside, (within k names).0);
-    closed = shut;
-    below = λ v a b closed. out.opens (low r k - v) (omega arith) (omega arith) (subst (λ x. Shut (with_low r k x)) (omega (arith, (within k names).0)) closed);
-  }
-  grown_at High r within k names q out shut = record {
-    value = high r k + out.by;
-    is = out.is;
-    greatest = omega (arith, out.inside, (within k names).2);
-    closed = shut;
-    above = λ v a b closed. out.opens (v - high r k) (omega arith) (omega arith) (subst (λ x. Shut (with_high r k x)) (omega arith) closed);
-  }
-
   -- the halving
   module _ (end : End) (r : Range) (within : Within rows r) (place : ℕ) (inside : place < length rows) where
     abbrev k : ℕ
@@ -99,7 +81,7 @@ module _ {meaning : Meaning} (laws : Laws meaning) (rows : List Row) (few : leng
     }
 
     -- what is open stays open farther out
-    pub out_less : (left tried : ℕ) (q : Range) → MovedOut meaning rows end r k left q → 1 ≤ tried → tried ≤ left → (Within rows (moved end q k tried) → Shut (moved end q k tried) → ⊥) → MovedOut meaning rows end r k (tried - 1) q
+    pub out_less : (left tried : ℕ) (q : Range) → MovedOut meaning rows end r k left q → 1 ≤ tried → tried ≤ left → (Shut (moved end q k tried) → ⊥) → MovedOut meaning rows end r k (tried - 1) q
     out_less left tried q out pos le opened = record {
       by = out.by;
       is = out.is;
@@ -107,105 +89,72 @@ module _ {meaning : Meaning} (laws : Laws meaning) (rows : List Row) (few : leng
       opens = λ b far near closed.
           let here : moved end q k tried ≡ moved end r k (out.by + tried) = ap (λ x. moved end x k tried) out.is ∙ moved_twice rows r within k names end out.by tried in
           let lies = moved_within rows r within k names end (out.by + tried) (omega (arith, out.inside)) in
-          opened (subst (Within rows) (sym here) lies)
-          (subst Shut (sym here) (narrowing laws rows few (moved end r k b) (moved end r k (out.by + tried)) (moved_within rows r within k names end b near) lies (moved_contains rows r within k names end (out.by + tried) b (omega arith)) closed));
+          opened (subst Shut (sym here) (narrowing laws rows few (moved end r k b) (moved end r k (out.by + tried)) (moved_within rows r within k names end b near) lies (moved_contains rows r within k names end (out.by + tried) b (omega arith) near) closed));
     }
 
+    -- the end is grown once nothing is left
     pub end_grown : (left : ℕ) (q : Range) → MovedOut meaning rows end r k left q → left ≡ 0 → Shut q → EndGrown meaning rows end r k q
-    end_grown left q out none shut = grown_at end r within k names q (subst (λ n. MovedOut meaning rows end r k n q) none out) shut
+    end_grown left q out none shut = record {
+      by = out.by;
+      is = out.is;
+      inside = omega (arith, out.inside);
+      closed = shut;
+      farther = λ more past near. out.opens more (omega arith) near;
+    }
 
   -- a row more is grown, counted from 0
-  pub grown_next : (r : Range) (place : ℕ) (before lower after : Range) → GrownTo meaning rows r place before → LowGrown meaning rows before (place + 1) lower → HighGrown meaning rows lower (place + 1) after → GrownTo meaning rows r (place + 1) after
-  grown_next r place before lower after = subst (λ k. GrownTo meaning rows r place before → LowGrown meaning rows before k lower → HighGrown meaning rows lower k after → GrownTo meaning rows r k after) (omega arith) (λ g l h. next g l h)
+  pub grown_next : (r : Range) (place : ℕ) (before lower after : Range) → GrownTo meaning rows r place before → EndGrown meaning rows Low before (place + 1) lower → EndGrown meaning rows High lower (place + 1) after → GrownTo meaning rows r (place + 1) after
+  grown_next r place before lower after = subst (λ k. GrownTo meaning rows r place before → EndGrown meaning rows Low before k lower → EndGrown meaning rows High lower k after → GrownTo meaning rows r k after) (omega arith) (λ g l h. next g l h)
 
-  -- the first k rows are grown: no wider end of theirs leaves the range closed
-  record State (r : Range) (k : ℕ) (q : Range) : Type 0 where
+  -- these ends are grown: where one of them is moved farther out, the range is no longer closed
+  record State (r : Range) (grown : ℕ → End → Type 0) (q : Range) : Type 0 where
     within : Within rows q
     closed : Shut q
     contains : Contains rows q r
-    maximal : (w : Range) → Within rows w → Contains rows w q → (j : ℕ) → Names rows j → j ≤ k → (low w j < low q j) ⊎ (high q j < high w j) → Shut w → ⊥
+    maximal : (v : Range) → Within rows v → Contains rows v q → (j : ℕ) → Names rows j → (e : End) → grown j e → reach e rows v j < reach e rows q j → Shut v → ⊥
 
   contains_join : (a b c : Range) → Contains rows a b → Contains rows b c → Contains rows a c
   contains_join a b c f g k names = (omega (arith, (f k names).0, (g k names).0), omega (arith, (f k names).1, (g k names).1))
 
-  -- a range that contains another contains it with an end of its own
-  contains_at_low : (w q : Range) (k : ℕ) → Names rows k → Within rows q → Contains rows w q → Contains rows w (with_low q k (low w k))
-  contains_at_low w q k names within c j nj =
-      elim (cases_eq j k) [
-        | inl e ↦ (omega (arith, ap (λ i. low (with_low q k (low w k)) i) e ∙ low_here rows q within k names (low w k), ap (low w) e), (c j nj).1)
-        | inr d ↦ (omega (arith, nth_put_other q.lows k j (low w k) 0 d, (c j nj).0), (c j nj).1)
-      ]
-
-  contains_at_high : (w q : Range) (k : ℕ) → Names rows k → Within rows q → Contains rows w q → Contains rows w (with_high q k (high w k))
-  contains_at_high w q k names within c j nj =
-      elim (cases_eq j k) [
-        | inl e ↦ ((c j nj).0, omega (arith, ap (λ i. high (with_high q k (high w k)) i) e ∙ high_here rows q within k names (high w k), ap (high w) e))
-        | inr d ↦ ((c j nj).0, omega (arith, nth_put_other q.highs k j (high w k) 0 d, (c j nj).1))
-      ]
-
-  low_value : (r : Range) (k : ℕ) (q : Range) → Within rows r → Names rows k → Shut r → (g : LowGrown meaning rows r k q) → g.value ≤ low r k
-  low_value r k q within names closed g =
-      elim (cases_lt (low r k) g.value) [
-        | inl l ↦ absurd (g.below (low r k) (within k names).0 l (narrowing laws rows few r (with_low r k (low r k)) within (within_low rows r within k names (low r k) (within k names).0 (omega arith)) (contains_at_low r r k names within (λ j h. (omega arith, omega arith))) closed))
-        | inr le ↦ le
-      ]
-
-  high_value : (r : Range) (k : ℕ) (q : Range) → Within rows r → Names rows k → Shut r → (g : HighGrown meaning rows r k q) → high r k ≤ g.value
-  high_value r k q within names closed g =
-      elim (cases_lt g.value (high r k)) [
-        | inl l ↦ absurd (g.above (high r k) l (within k names).2 (narrowing laws rows few r (with_high r k (high r k)) within (within_high rows r within k names (high r k) (omega arith) (within k names).2) (contains_at_high r r k names within (λ j h. (omega arith, omega arith))) closed))
-        | inr le ↦ le
-      ]
-
-  state_low : (r : Range) (k : ℕ) (q low' : Range) → State r k q → Names rows (suc k) → LowGrown meaning rows q (suc k) low' → Within rows low' × Contains rows low' q × Shut low'
-  state_low r k q low' s names g =
-      let le = low_value q (suc k) low' s.within names s.closed g in (
-        subst (Within rows) (sym g.is) (within_low rows q s.within (suc k) names g.value g.least le),
-        subst (λ x. Contains rows x q) (sym g.is) (contains_by_low rows q s.within (suc k) names g.value le),
-        g.closed,
-      )
-
-  state_next : (r : Range) (k : ℕ) (q low' high' : Range) → State r k q → Names rows (suc k) → LowGrown meaning rows q (suc k) low' → HighGrown meaning rows low' (suc k) high' → State r (suc k) high'
-  state_next r k q low' high' s names gl gh =
-      let lower = state_low r k q low' s names gl in
-      let ge = high_value low' (suc k) high' lower.0 names lower.2 gh in
-      let low_is : low low' (suc k) ≡ gl.value = ap (λ x. low x (suc k)) gl.is ∙ low_here rows q s.within (suc k) names gl.value in
-      let high_is : high high' (suc k) ≡ gh.value = ap (λ x. high x (suc k)) gh.is ∙ high_here rows low' lower.0 (suc k) names gh.value in
-      let kept : low high' (suc k) ≡ low low' (suc k) = ap (λ x. low x (suc k)) gh.is in
-      let within' : Within rows high' = subst (Within rows) (sym gh.is) (within_high rows low' lower.0 (suc k) names gh.value ge gh.greatest) in
-      let up : Contains rows high' low' = subst (λ x. Contains rows x low') (sym gh.is) (contains_by_high rows low' lower.0 (suc k) names gh.value ge) in
-      let over : Contains rows high' q = contains_join high' low' q up lower.1 in
+  -- an end more is grown
+  state_next : (r : Range) (grown more : ℕ → End → Type 0) (q q' : Range) → State r grown q → (k : ℕ) → Names rows k → (end : End) → EndGrown meaning rows end q k q' → ((j : ℕ) (e : End) → more j e → grown j e ⊎ ((j ≡ k) × (e ≡ end))) → State r more q'
+  state_next r grown more q q' s k names end g which =
+      let over : Contains rows q' q = subst (λ x. Contains rows x q) (sym g.is) (moved_wider rows q s.within k names end g.by) in
+      let room : reach end rows q' k ≡ reach end rows q k - g.by = ap (λ x. reach end rows x k) g.is ∙ reach_moved rows q s.within k names end g.by in
       record {
-        within = within';
-        closed = gh.closed;
-        contains = contains_join high' q r over s.contains;
-        maximal = λ w hw c j nj le differs shut.
-            elim (cases_eq j (suc k)) [
-              | inl e ↦ elim differs [
-                | inl l ↦
-                    let lw : low w (suc k) < gl.value = omega (arith, l, ap (low w) e, ap (low high') e, kept, low_is) in
-                    let narrow = contains_at_low w q (suc k) names s.within (contains_join w high' q c over) in
-                    gl.below (low w (suc k)) (hw (suc k) names).0 lw
-                    (narrowing laws rows few w (with_low q (suc k) (low w (suc k))) hw (within_low rows q s.within (suc k) names (low w (suc k)) (hw (suc k) names).0 (contains_join w high' q c over (suc k) names).0) narrow shut)
-                | inr l ↦
-                    let hl : gh.value < high w (suc k) = omega (arith, l, ap (high w) e, ap (high high') e, high_is) in
-                    let narrow = contains_at_high w low' (suc k) names lower.0 (contains_join w high' low' c up) in
-                    gh.above (high w (suc k)) hl (hw (suc k) names).2
-                    (narrowing laws rows few w (with_high low' (suc k) (high w (suc k))) hw (within_high rows low' lower.0 (suc k) names (high w (suc k)) (contains_join w high' low' c up (suc k) names).1 (hw (suc k) names).2) narrow shut)
-              ]
-              | inr d ↦
-                  let same_low : low high' j ≡ low q j = ap (λ x. low x j) gh.is ∙ ap (λ x. low x j) gl.is ∙ nth_put_other q.lows (suc k) j gl.value 0 d in
-                  let same_high : high high' j ≡ high q j = ap (λ x. high x j) gh.is ∙ nth_put_other low'.highs (suc k) j gh.value 0 d ∙ ap (λ x. high x j) gl.is in
-                  s.maximal w hw (contains_join w high' q c over) j nj (omega arith) (elim differs [ inl l ↦ inl (omega (arith, l, same_low)) | inr l ↦ inr (omega (arith, l, same_high)) ]) shut
+        within = subst (Within rows) (sym g.is) (moved_within rows q s.within k names end g.by g.inside);
+        closed = g.closed;
+        contains = contains_join q' q r over s.contains;
+        maximal = λ v hv c j nj e one less shut.
+            let wide = contains_join v q' q c over in
+            elim (which j e one) [
+              | inl old ↦ s.maximal v hv wide j nj e old (omega (arith, less, reach_wider rows q' q over j nj e)) shut
+              | inr new ↦
+                  let far = reach end rows q k - reach end rows v k in
+                  let here : reach end rows v k < reach end rows q' k = subst (λ i. reach end rows v i < reach end rows q' i) new.0 (subst (λ d. reach d rows v j < reach d rows q' j) new.1 less) in
+                  let near : far ≤ reach end rows q k = omega arith in
+                  g.farther far (omega (arith, here, room)) near
+                  (narrowing laws rows few v (moved end q k far) hv (moved_within rows q s.within k names end far near) (moved_inside rows q s.within k names end v hv wide far (omega (arith, here, room))) shut)
             ];
       }
 
-  state_start : (r : Range) → Within rows r → Shut r → State r 0 r
-  state_start r within closed = record { within = within; closed = closed; contains = λ k h. (omega arith, omega arith); maximal = λ w hw c j nj le. absurd (omega arith) }
+  -- the ends of the first k rows, and with them the next row's low
+  abbrev Rows : ℕ → ℕ → End → Type 0
+  Rows k j e = j ≤ k
 
-  state_of : (r : Range) → Within rows r → Shut r → {k : ℕ} {q : Range} → GrownTo meaning rows r k q → k ≤ length rows → State r k q
-  state_of r within closed start le = state_start r within closed
-  state_of r within closed (next {k} {before} {lower} {after} g gl gh) le = state_next r k before lower after (state_of r within closed g (omega arith)) (omega arith, omega arith) gl gh
+  abbrev AndLow : ℕ → ℕ → End → Type 0
+  AndLow k j e = (j ≤ k) ⊎ ((j ≡ suc k) × (e ≡ Low))
+
+  and_high : (k j : ℕ) (e : End) → j ≤ suc k → AndLow k j e ⊎ ((j ≡ suc k) × (e ≡ High))
+  and_high k j Low h = inl (elim (cases_eq j (suc k)) [ inl is ↦ inr (is, refl) | inr d ↦ inl (omega arith) ])
+  and_high k j High h = elim (cases_eq j (suc k)) [ inl is ↦ inr (is, refl) | inr d ↦ inl (inl (omega arith)) ]
+
+  state_of : (r : Range) → Within rows r → Shut r → {k : ℕ} {q : Range} → GrownTo meaning rows r k q → k ≤ length rows → State r (Rows k) q
+  state_of r within closed start le = record { within = within; closed = closed; contains = λ k h. (omega arith, omega arith); maximal = λ v hv c j nj e none. absurd (omega (arith, nj.0)) }
+  state_of r within closed (next {k} {before} {lower} {after} g gl gh) le =
+      let names : Names rows (suc k) = (omega arith, omega arith) in
+      let low' = state_next r (Rows k) (AndLow k) before lower (state_of r within closed g (omega arith)) (suc k) names Low gl (λ j e one. one) in
+      state_next r (AndLow k) (Rows (suc k)) lower after low' (suc k) names High gh (and_high k)
 
   -- the grown range is maximal
   pub grown_maximal : (r q : Range) → Within rows r → Shut r → GrownTo meaning rows r (length rows) q → Maximal meaning rows r q
@@ -215,9 +164,12 @@ module _ {meaning : Meaning} (laws : Laws meaning) (rows : List Row) (few : leng
         record {
           within = s.within;
           closed = s.closed;
-          wider = λ w hw wider. elim (open_or_closed w) [
+          wider = λ v hv (c, (k, names, differs)). elim (open_or_closed v) [
             | inl o ↦ o
-            | inr shut ↦ absurd (s.maximal w hw wider.0 wider.1.0 wider.1.1 wider.1.1.1 wider.1.2 shut)
+            | inr shut ↦ absurd (elim differs [
+              | inl l ↦ s.maximal v hv c k names Low names.1 (omega (arith, l, (hv k names).0)) shut
+              | inr l ↦ s.maximal v hv c k names High names.1 (omega (arith, l, (hv k names).2)) shut
+            ])
           ];
         },
       )

@@ -8,3 +8,4 @@ pub mod Moves
 pub mod Grows
 pub mod Related
 pub mod OneGrowth
+pub mod Growths

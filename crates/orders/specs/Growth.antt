@@ -28,31 +28,22 @@ reach Low rows r k = low r k - (row rows k).wcet
 reach High rows r k = (row rows k).deadline - high r k
 
 module _ (meaning : Meaning) (rows : List Row) where
-  -- row k's low becomes the least value, at least C, that leaves the range closed
-  pub record LowGrown (r : Range) (k : ℕ) (q : Range) : Type 0 where
-    pub value : ℕ
-    pub is : q ≡ with_low r k value
-    pub least : (row rows k).wcet ≤ value
+  -- an end of row k is grown: the low goes down to the least value, not below C, at which the range
+  -- is closed, or the high up to the greatest value, not above D
+  pub record EndGrown (end : End) (r : Range) (k : ℕ) (q : Range) : Type 0 where
+    pub by : ℕ
+    pub is : q ≡ moved end r k by
+    pub inside : by ≤ reach end rows r k
     pub closed : Closed meaning rows q
-    pub below : (v : ℕ) → (row rows k).wcet ≤ v → v < value → Closed meaning rows (with_low r k v) → ⊥
-
-  -- row k's high becomes the greatest value, at most D, that leaves the range closed
-  pub record HighGrown (r : Range) (k : ℕ) (q : Range) : Type 0 where
-    pub value : ℕ
-    pub is : q ≡ with_high r k value
-    pub greatest : value ≤ (row rows k).deadline
-    pub closed : Closed meaning rows q
-    pub above : (v : ℕ) → value < v → v ≤ (row rows k).deadline → Closed meaning rows (with_high r k v) → ⊥
-
-  -- an end of row k is grown: its low, or its high
-  abbrev pub EndGrown : End → Range → ℕ → Range → Type 0
-  EndGrown Low r k q = LowGrown r k q
-  EndGrown High r k q = HighGrown r k q
+    pub farther :
+        (more : ℕ) → by < more → more ≤ reach end rows r k → ¬ Closed meaning rows (moved end r k more)
 
   -- the first k rows are grown, in number order: each row's low, then its high
   pub data GrownTo (r : Range) : ℕ → Range → Type 0 where
     start : GrownTo r 0 r
-    next : {k : ℕ} {before lower after : Range} → GrownTo r k before → LowGrown before (suc k) lower → HighGrown lower (suc k) after → GrownTo r (suc k) after
+    next :
+        {k : ℕ} {before lower after : Range} → GrownTo r k before
+        → EndGrown Low before (suc k) lower → EndGrown High lower (suc k) after → GrownTo r (suc k) after
 
   -- growing a closed range of the rows
   abbrev pub Grown : Range → Range → Type 0
@@ -60,13 +51,13 @@ module _ (meaning : Meaning) (rows : List Row) where
 
   -- what is open, or no range, is given back as it is
   abbrev pub GivenBack : Range → Range → Type 0
-  GivenBack r q = (Open meaning rows r → q ≡ r) × ((Within rows r → ⊥) → q ≡ r)
+  GivenBack r q = (Open meaning rows r → q ≡ r) × (¬ Within rows r → q ≡ r)
 
   -- a range that is barred: it is closed, and every wider range is open
   pub record Barred (r : Range) : Type 0 where
     pub within : Within rows r
     pub closed : Closed meaning rows r
-    pub wider : (w : Range) → Within rows w → Wider rows w r → Open meaning rows w
+    pub wider : (outer : Range) → Within rows outer → Wider rows outer r → Open meaning rows outer
 
   -- the second range contains the first, and is barred
   abbrev pub Maximal : Range → Range → Type 0
@@ -78,4 +69,6 @@ module _ (meaning : Meaning) (rows : List Row) where
 
   -- narrowing keeps a range closed
   abbrev pub Narrowing : Type 0
-  Narrowing = (w r : Range) → Within rows w → Within rows r → Contains rows w r → Closed meaning rows w → Closed meaning rows r
+  Narrowing =
+      (outer inner : Range) → Within rows outer → Within rows inner → Contains rows outer inner
+      → Closed meaning rows outer → Closed meaning rows inner

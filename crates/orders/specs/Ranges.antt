@@ -17,15 +17,20 @@ high r k = nth r.highs k 0
 
 -- a range of the rows: C ≤ low ≤ high ≤ D for each row
 abbrev pub Within : List Row → Range → Type 0
-Within rows r = (k : ℕ) → Names rows k → ((row rows k).wcet ≤ low r k) × (low r k ≤ high r k) × (high r k ≤ (row rows k).deadline)
+Within rows r =
+    (k : ℕ) → Names rows k
+    → ((row rows k).wcet ≤ low r k) × (low r k ≤ high r k) × (high r k ≤ (row rows k).deadline)
 
 -- a range contains another: none of its lows is greater, and none of its highs is smaller
 abbrev pub Contains : List Row → Range → Range → Type 0
-Contains rows w r = (k : ℕ) → Names rows k → (low w k ≤ low r k) × (high r k ≤ high w k)
+Contains rows outer inner =
+    (k : ℕ) → Names rows k → (low outer k ≤ low inner k) × (high inner k ≤ high outer k)
 
 -- a range is wider than another: it contains it, and at least one low or high differs
 abbrev pub Wider : List Row → Range → Range → Type 0
-Wider rows w r = Contains rows w r × ((k : ℕ) × Names rows k × ((low w k < low r k) ⊎ (high r k < high w k)))
+Wider rows outer inner =
+    Contains rows outer inner
+    × ((k : ℕ) × Names rows k × ((low outer k < low inner k) ⊎ (high inner k < high outer k)))
 
 -- a list of estimates as a range: each is its row's low and high
 abbrev pub as_range : List ℕ → Range
@@ -50,4 +55,4 @@ module _ (meaning : Meaning) (rows : List Row) where
 
   -- a range is closed if it admits none
   abbrev pub Closed : Range → Type 0
-  Closed r = (order : List ℕ) → Admits r order → ⊥
+  Closed r = (order : List ℕ) → ¬ Admits r order

@@ -9,9 +9,10 @@ ghost use Rattle.orders.specs.Ranges.{Within};
 ghost use Rattle.orders.specs.Relations.{Relations};
 
 use crate::range::Range;
+use crate::table_range::TableRange;
 use bounds::{Question, Test};
 use std::array;
-use table::{Row, Table};
+use table::Table;
 
 /// Whether this is a range of the table.
 pub fn is_range(table: &Table, range: &Range) -> bool
@@ -44,8 +45,8 @@ impl<T: Test> Assigner<'_, T> {
     // A task's answer below all the other unplaced tasks.
     fn answer(&self, left: &[bool; 32], k: usize) -> Option<u32>
         requires { (1 ≤ k) × (k ≤ 32) }
-        ensures { let rows = view self.now.table.now in
-            result ≡ T.answer self.now.test.now (question rows k (put left.now k false) self.now.range.now.lows) }
+        ensures { let rows = view self.now.table.now in let lows = self.now.range.now.lows in
+            result ≡ T.answer self.now.test.now (question rows k (put left.now k false) lows) }
     {
         let mut above = *left;
         above[k - 1] = false;
@@ -71,14 +72,15 @@ impl<T: Test> Assigner<'_, T> {
             .is_some_and(|bound| bound <= self.range.highs[k - 1])
     }
 
-    // The order of the filled levels, the highest task first, with 0 after the last: from the lowest level up each takes
-    // the lowest-numbered task left that passes there. None where no task passes at a level; `left` then has the tasks
-    // that are not placed.
+    // The order of the filled levels, the highest task first, with 0 after the last: from the lowest
+    // level up each takes the lowest-numbered task left that passes there. None where no task passes
+    // at a level; `left` then has the tasks that are not placed.
     fn fill_levels(&self, left: &mut [bool; 32]) -> Option<[usize; 32]>
         requires { left.old ≡ full (length (view self.now.table.now)) }
         ensures { let rows = view self.now.table.now in
-            MatchOption result (assigned (T.answer self.now.test.now) rows self.now.range.now ≡ None)
-            (λ tasks. (assigned (T.answer self.now.test.now) rows self.now.range.now ≡ Some (take (length rows) tasks))
+            let order = assigned (T.answer self.now.test.now) rows self.now.range.now in
+            MatchOption result (order ≡ None)
+            (λ tasks. (order ≡ Some (take (length rows) tasks))
             × ((p : ℕ) → length rows ≤ p → task_at tasks p ≡ 0)) }
     {
         let rows = self.table.len();
@@ -106,28 +108,40 @@ impl<T: Test> Assigner<'_, T> {
     }
 }
 
-// What a row's high must be for its task to be placed once no other task passes, or none if it is late then. The
-// lower levels are filled by the other tasks as far as they pass.
-pub(crate) fn high_wanted<T: Test>(
-    test: &T,
-    table: &Table,
-    range: &Range,
-    place: usize,
-) -> Option<u32>
-    requires { place < length (view table.now) }
+// What a row's high must be for its task to be placed once no other task passes, or none if it is
+// late then. The lower levels are filled by the other tasks as far as they pass.
+pub(crate) fn high_wanted<T: Test>(test: &T, range: &TableRange<'_>, place: usize) -> Option<u32>
+    requires { place < length (view range.now.table.now) }
 {
-    let mut others = *range;
+    let mut others = range.ends;
     // No answer is 0, so the task itself does not pass.
     others.highs[place] = 0;
     let assigner = Assigner {
         test,
-        table,
+        table: range.table,
         range: &others,
     };
-    let mut left = all_tasks(table.len());
+    let mut left = all_tasks(range.table.len());
     // They end with none.
     assigner.fill_levels(&mut left);
     assigner.answer(&left, place + 1)
+}
+
+// The assigner's order for a range of the table, if it finds one.
+pub(crate) fn find_order<T: Test>(test: &T, range: &TableRange<'_>) -> Option<[usize; 32]>
+    ensures rule { let rows = view range.now.table.now in
+        Assigns (T.answer test.now) rows range.now.ends result }
+    ensures decides { let rows = view range.now.table.now in
+        FindsIfOpen (T.answer test.now) rows range.now.ends result }
+    ensures lowest { let rows = view range.now.table.now in
+        FillsLowest (T.answer test.now) rows range.now.ends result }
+{
+    let assigner = Assigner {
+        test,
+        table: range.table,
+        range: &range.ends,
+    };
+    assigner.fill_levels(&mut all_tasks(range.table.len()))
 }
 
 /// An order that passes the range, the highest task first, if there is one. Levels are filled from
@@ -138,9 +152,6 @@ pub fn assign<T: Test>(test: &T, table: &Table, range: &Range) -> Option<[usize;
     ensures lowest { FillsLowest (T.answer test.now) (view table.now) range.now result }
     ensures relations { Relations (T.answer test.now) (view table.now) }
 {
-    if !is_range(table, range) {
-        return None;
-    }
-    let assigner = Assigner { test, table, range };
-    assigner.fill_levels(&mut all_tasks(table.len()))
+    let range = TableRange::new(table, range)?;
+    find_order(test, &range)
 }

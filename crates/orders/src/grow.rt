@@ -6,7 +6,7 @@ use crate::range::Range;
 use crate::settle::settle;
 use crate::settled::Settled;
 use bounds::Test;
-use table::{Row, Table};
+use table::Table;
 
 /// The grown form of a closed range: row by row the low goes down to the least value, at least the
 /// wcet, that leaves the range closed, and then the high up to the greatest, at most the deadline.

@@ -7,6 +7,7 @@ pub mod grow;
 pub mod range;
 pub mod settle;
 pub mod settled;
+mod table_range;
 
 pub use range::Range;
 pub use settled::Settled;

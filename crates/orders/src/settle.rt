@@ -7,10 +7,12 @@ ghost use Rattle.orders.specs.Settling.{order_of, grown_of};
 use crate::closed::ClosedRange;
 use crate::range::Range;
 use crate::settled::Settled;
+use crate::table_range::TableRange;
 use bounds::Test;
-use table::{Row, Table};
+use table::Table;
 
-/// The order that `assign` gives, if it gives one, or else the range that `grow` gives. The assigner is asked about the range once.
+/// The order that `assign` gives, if it gives one, or else the range that `grow` gives. The
+/// assigner is asked about the range once.
 pub fn settle<T: Test>(test: &T, table: &Table, range: &Range) -> Settled
     ensures order { Assigns (T.answer test.now) (view table.now) range.now (order_of result) }
     ensures decides { FindsIfOpen (T.answer test.now) (view table.now) range.now (order_of result) }
@@ -20,9 +22,11 @@ pub fn settle<T: Test>(test: &T, table: &Table, range: &Range) -> Settled
     ensures maximal { GrownMaximal (T.answer test.now) (view table.now) range.now (grown_of range.now result) }
     ensures narrowing { Narrowing (T.answer test.now) (view table.now) }
 {
-    match ClosedRange::new(test, table, *range) {
+    let Some(own) = TableRange::new(table, range) else {
+        return Settled::Grown(*range);
+    };
+    match ClosedRange::new(test, own) {
         Ok(closed) => Settled::Grown(closed.grow()),
-        Err(Some(order)) => Settled::Order(order),
-        Err(None) => Settled::Grown(*range),
+        Err(order) => Settled::Order(order),
     }
 }

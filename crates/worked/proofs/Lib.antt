@@ -1,5 +1,4 @@
 mod Added
-mod Growths
 mod Searching
 mod Decisions
 mod Searched

@@ -6,13 +6,13 @@ use Rattle.bounds.specs.ResponseLoads.{rta_laws}
 use Rattle.bounds.specs.Responses.{rta}
 use Rattle.orders.specs.declared.range.Range.{Range}
 use Rattle.orders.specs.Growth.{GrownTo, start, next}
+use Rattle.orders.proofs.Growths.{low_to_cost, high_to_deadline, high_to}
 use Rattle.orders.proofs.Withins.{within_from}
 use Rattle.study.specs.Whole.{whole}
 use Rattle.study.specs.Pieces.{cut, pieces}
 use Rattle.study.specs.Deeds.{lows_of}
 use Rattle.study.proofs.Runs.{EachFull}
 use Rattle.worked.specs.Examples.{tasks, pair, lone, both, ranged, FoundAfterSplit, NoneAfterKept, FoundAtOnce}
-use Rattle.worked.proofs.Growths.{low_to_cost, high_to_deadline, high_to}
 use Rattle.worked.proofs.Searching.{begun_on, stepped_on, does_keep, does_split, does_find, ends_none}
 use Rattle.worked.proofs.Decisions.{two, one, of_three, all_open, lows_closed, a_closed, a_open, b_closed, b_open, c_closed, c_open, last_open, last_lows_open, last_order, last_inside, both_closed, five, lone_open, lone_order, lone_inside}
 
@@ -25,9 +25,9 @@ grown_lows =
     let lows = of_three 2 2 3 2 2 3 in
     let with_a = of_three 2 2 3 3 2 3 in
     let with_b = of_three 2 2 3 3 3 3 in
-    let grown_a = next start (low lows 1 lows_closed) (high lows (within_from tasks lows refl) 1 (lit≤ tt, lit≤ tt) 3 (lit≤ tt) (lit≤ tt) a_closed a_open) in
-    let grown_b = next grown_a (low with_a 2 a_closed) (high with_a (within_from tasks with_a refl) 2 (lit≤ tt, lit≤ tt) 3 (lit≤ tt) (lit≤ tt) b_closed b_open) in
-    next grown_b (low with_b 3 b_closed) (high with_b (within_from tasks with_b refl) 3 (lit≤ tt, lit≤ tt) 4 (lit≤ tt) (lit≤ tt) c_closed c_open)
+    let grown_a = next start (low lows 1 lows_closed) (high lows (within_from tasks lows refl) 1 (lit≤ tt, lit≤ tt) 1 (lit≤ tt) a_closed a_open) in
+    let grown_b = next grown_a (low with_a 2 a_closed) (high with_a (within_from tasks with_a refl) 2 (lit≤ tt, lit≤ tt) 1 (lit≤ tt) b_closed b_open) in
+    next grown_b (low with_b 3 b_closed) (high with_b (within_from tasks with_b refl) 3 (lit≤ tt, lit≤ tt) 1 (lit≤ tt) c_closed c_open)
 
 -- the pieces of all that begin writes
 abbrev three_pieces : List Range

@@ -7,5 +7,5 @@ use Rattle.orders.proofs.closed.ClosedRange.grow.Given as goal
 abbrev pub invariant-loop-place : goal.invariant-loop-place
 invariant-loop-place g l =
     let s = l.fn.self in
-    (l.grown.test.now ≡ s.test.now) × (l.grown.table.now ≡ s.table.now)
-    × GrownTo (g.T.Test.answer s.test.now) (view s.table.now) s.range l.place l.grown.range
+    (l.grown.test.now ≡ s.test.now) × (l.grown.range.table.now ≡ s.range.table.now)
+    × GrownTo (g.T.Test.answer s.test.now) (view s.range.table.now) s.range.ends l.place l.grown.range.ends

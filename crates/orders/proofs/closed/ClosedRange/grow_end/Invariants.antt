@@ -7,6 +7,6 @@ use Rattle.orders.proofs.closed.ClosedRange.grow_end.Given as goal
 abbrev pub invariant-loop-round : goal.invariant-loop-round
 invariant-loop-round g l =
     let s = l.fn.self in
-    (l.grown.test.now ≡ s.test.now) × (l.grown.table.now ≡ s.table.now)
-    × MovedOut (g.T.Test.answer s.test.now) (view s.table.now) l.end s.range (l.place + 1) l.left l.grown.range
+    (l.grown.test.now ≡ s.test.now) × (l.grown.range.table.now ≡ s.range.table.now)
+    × MovedOut (g.T.Test.answer s.test.now) (view s.range.table.now) l.end s.range.ends (l.place + 1) l.left l.grown.range.ends
     × (l.left < 2 ^ (20 - (l.round - 3)))
