@@ -1,5 +1,5 @@
 -- The climb to the least window that fits: what its parts give. How the code gets there; the tests are pinned in Responses.
-use Rattle.std.specs.Prelude.{◌≡◌, ℕ, ◌+◌, ◌-◌, ◌*◌, ◌<◌, ◌≤◌, min, Bool, false, cond, ltb, List, Some, None, Option, MatchOption, nat_lt, slice_index, slice_index_or}
+use Rattle.std.specs.Prelude.{◌≡◌, ℕ, ◌+◌, ◌-◌, ◌*◌, ◌<◌, ◌≤◌, min, Bool, false, ltb, List, Some, None, Option, MatchOption, nat_lt, slice_index, slice_index_or, if◌then◌else◌}
 use Rattle.table.specs.declared.row.Row.{Row}
 use Rattle.table.specs.Places.{nth}
 use Rattle.table.specs.Rows.{row}
@@ -25,10 +25,10 @@ Lists f xs = (k : ℕ) → 1 ≤ k → k ≤ 32 → nth xs k 0 ≡ f k
 -- not above
 abbrev pub work_at : Asked → ℕ → Bool → ℕ → ℕ
 work_at q l carries k =
-    cond (nth q.above k false)
-    (cond carries (work (row q.rows k) (l + nth q.estimates k 0 - (row q.rows k).wcet))
-    (work (row q.rows k) l))
-    0
+    if nth q.above k false
+    then (if carries then work (row q.rows k) (l + nth q.estimates k 0 - (row q.rows k).wcet)
+    else work (row q.rows k) l)
+    else 0
 
 -- the loads of a list in all, each held to a cap
 abbrev pub capped_total : List ℕ → ℕ → ℕ → ℕ
@@ -73,7 +73,7 @@ pub record Tallied (uncapped : List ℕ) (n y : ℕ) (t : Tally) : Type 0 where
   pub sum : t.sum ≡ capped_total uncapped n y
   pub over : t.over ≡ total_of (λ k. ltb y (nth uncapped k 0)) (λ _. 1) n
   pub least : NoneBelow uncapped n y t.least
-  pub rest : t.rest ≡ sum_to (λ k. cond (nat_lt y (nth uncapped k 0)) 0 (nth uncapped k 0)) n
+  pub rest : t.rest ≡ sum_to (λ k. if nat_lt y (nth uncapped k 0) then 0 else nth uncapped k 0) n
 
 -- no cap from y on and below z can fit: at each, the loads make up at least m times the cap
 abbrev pub NoneFit : List ℕ → ℕ → ℕ → ℕ → Type 0

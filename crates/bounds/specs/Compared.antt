@@ -1,12 +1,12 @@
 -- How answers compare: late is greater than every number.
-use Rattle.std.specs.Prelude.{◌≡◌, ℕ, ◌≤◌, Bool, true, false, cond, Some, None, Option, nat_le, refl}
+use Rattle.std.specs.Prelude.{◌≡◌, ℕ, ◌≤◌, Bool, true, false, cond, Some, None, Option, nat_le, refl, if◌then◌else◌}
 use Rattle.std.proofs.Common.{ap, subst, inl, inr, arith}
 use Rattle.std.proofs.lemmas.Bool.{cases_Bool, cond-true, cond-false, leb-true, le-leb}
 use Rattle.std.proofs.lemmas.Option.{none-some, cond_some}
 use Rattle.bounds.specs.Questions.{NoMore, timely}
 
 -- what is given only where a test holds
-pub given_when : {A : Type 0} (test : Bool) (a : Option A) (x : A) → cond test a None ≡ Some x → (test ≡ true) × (a ≡ Some x)
+pub given_when : {A : Type 0} (test : Bool) (a : Option A) (x : A) → (if test then a else None) ≡ Some x → (test ≡ true) × (a ≡ Some x)
 given_when true a x is = (refl, is)
 given_when false a x is = absurd (none-some x is)
 

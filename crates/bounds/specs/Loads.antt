@@ -1,5 +1,5 @@
 -- The load of the tasks above a task in a window, and the deadline analysis.
-use Rattle.std.specs.Prelude.{◌≡◌, ℕ, zero, suc, ◌+◌, ◌-◌, ◌*◌, ◌/◌, ◌%◌, min, Bool, false, cond, List, length, None}
+use Rattle.std.specs.Prelude.{◌≡◌, ℕ, zero, suc, ◌+◌, ◌-◌, ◌*◌, ◌/◌, ◌%◌, min, Bool, false, List, length, None, if◌then◌else◌}
 use Rattle.table.specs.declared.row.Row.{Row}
 use Rattle.table.specs.Places.{nth}
 use Rattle.table.specs.Rows.{row}
@@ -28,7 +28,7 @@ sum_to f (suc n) = sum_to f n + f (suc n)
 
 -- the total of f over the tasks that are chosen, among the rows 1 to n
 abbrev pub total_of : (ℕ → Bool) → (ℕ → ℕ) → ℕ → ℕ
-total_of chosen f n = sum_to (λ k. cond (chosen k) (f k) 0) n
+total_of chosen f n = sum_to (λ k. if chosen k then f k else 0) n
 
 -- the total of f over the tasks of a set, among the rows 1 to n
 abbrev pub sum_over : List Bool → (ℕ → ℕ) → ℕ → ℕ
@@ -48,7 +48,7 @@ deadline_answer m q = timely (own q).deadline ((own q).wcet + deadline_load q / 
 
 -- da: that answer; an unsound question is late
 abbrev pub da : ℕ → Meaning
-da m q = cond (soundb q) (deadline_answer m q) None
+da m q = if soundb q then deadline_answer m q else None
 
 -- da's answer to a sound question is C + floor(load / m), late past D
 abbrev pub DaMeaning : Type 0

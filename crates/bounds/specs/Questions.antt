@@ -1,5 +1,5 @@
 -- What a question is, when it is sound, and the laws that every test keeps.
-use Rattle.std.specs.Prelude.{◌≡◌, ℕ, zero, suc, ◌≤◌, Bool, true, false, cond, not, ◌&&◌, ◌↔◌, List, length, Some, None, Option, IsTrue, nat_le}
+use Rattle.std.specs.Prelude.{◌≡◌, ℕ, zero, suc, ◌≤◌, Bool, true, false, not, ◌&&◌, ◌↔◌, List, length, Some, None, Option, IsTrue, nat_le, if◌then◌else◌}
 use Rattle.table.specs.declared.row.Row.{Row}
 use Rattle.table.specs.Places.{nth}
 use Rattle.table.specs.Rows.{row, view, Names}
@@ -55,7 +55,8 @@ liesb r estimate = nat_le r.wcet estimate && nat_le estimate r.deadline
 -- whether k is a row whose estimate lies from its C to its D, or no row and not above
 abbrev pub sound_atb : Asked → ℕ → Bool
 sound_atb q k =
-    cond (nat_le k (length q.rows)) (liesb (row q.rows k) (nth q.estimates k 0)) (not (nth q.above k false))
+    if nat_le k (length q.rows) then liesb (row q.rows k) (nth q.estimates k 0)
+    else not (nth q.above k false)
 
 -- whether a question is sound, computed: it says what Sound says (SoundComputed)
 abbrev pub soundb : Asked → Bool
@@ -73,7 +74,7 @@ LateIfUnsound meaning = (q : Asked) → ¬ Sound q → meaning q ≡ None
 
 -- a bound that is late past the deadline
 abbrev pub timely : ℕ → ℕ → Option ℕ
-timely deadline bound = cond (nat_le bound deadline) (Some bound) None
+timely deadline bound = if nat_le bound deadline then Some bound else None
 
 -- the first answer is no greater than the second; late is greater than every number
 abbrev pub NoMore : Option ℕ → Option ℕ → Type 0

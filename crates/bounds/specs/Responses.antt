@@ -1,5 +1,5 @@
 -- The response-time analyses: the least window that is long enough for a task and the load of the tasks above it.
-use Rattle.std.specs.Prelude.{◌≡◌, ℕ, zero, suc, ◌+◌, ◌-◌, ◌/◌, ◌<◌, ◌≤◌, max, Bool, true, false, cond, ◌&&◌, List, length, Some, None, Option, MatchOption, nat_le, nat_lt}
+use Rattle.std.specs.Prelude.{◌≡◌, ℕ, zero, suc, ◌+◌, ◌-◌, ◌/◌, ◌<◌, ◌≤◌, max, Bool, true, false, ◌&&◌, List, length, Some, None, Option, MatchOption, nat_le, nat_lt, if◌then◌else◌}
 use Rattle.table.specs.declared.row.Row.{Row}
 use Rattle.table.specs.Places.{nth}
 use Rattle.table.specs.Rows.{row}
@@ -9,7 +9,7 @@ use Rattle.bounds.specs.Loads.{carried, plain, sum_over, total_of}
 -- the least number from k on, among n, of which p holds
 unfoldable pub least_from : (ℕ → Bool) → ℕ → ℕ → Option ℕ
 least_from p k zero = None
-least_from p k (suc n) = cond (p k) (Some k) (least_from p (k + 1) n)
+least_from p k (suc n) = if p k then Some k else least_from p (k + 1) n
 
 -- the least window l from C to D of a task with C + floor(S(l) / m) ≤ l, where S is the load in each
 -- window; none if there is none
@@ -28,7 +28,7 @@ Least m i load r =
 
 -- the answer by a load: the least window that fits it; an unsound question is late
 abbrev pub answer_by : ℕ → (Asked → ℕ → ℕ) → Meaning
-answer_by m load q = cond (soundb q) (least_fit m (own q) (load q)) None
+answer_by m load q = if soundb q then least_fit m (own q) (load q) else None
 
 -- rta's load in a window: the carried loads of the tasks above with their estimates
 abbrev pub carried_loads : Asked → ℕ → ℕ
@@ -59,7 +59,7 @@ unfoldable pub greatest : List Bool → (ℕ → ℕ) → ℕ → ℕ → ℕ
 greatest set f c zero = 0
 greatest set f c (suc n) =
     max (greatest set f c n)
-    (cond (nth set (suc n) false && nat_lt 0 c) (greatest set f (c - 1) n + f (suc n)) 0)
+    (if nth set (suc n) false && nat_lt 0 c then greatest set f (c - 1) n + f (suc n) else 0)
 
 -- the plain loads of the tasks above in a window
 abbrev pub plain_loads : Asked → ℕ → ℕ
