@@ -48,13 +48,13 @@ module _ (s t : Sheet) (like : Alike s t) where
   left : (c : Column) → left_of s c ≡ left_of t c
   left c = ap (position_or_len (λ d. bytes_eq (name_of d) (name_of c))) like.columns
 
-  count : count_of s ≡ count_of t
+  pub count : count_of s ≡ count_of t
   count = ap length like.values
 
-  field : (k : ℕ) (c : Column) → field_of s k c ≡ field_of t k c
+  pub field : (k : ℕ) (c : Column) → field_of s k c ≡ field_of t k c
   field k c = ap (λ (v : List (List (List ℕ))). nth (nth v k []) (left_of s c + 1) []) like.values ∙ ap (λ l. nth (nth (values_of t) k []) (l + 1) []) (left c)
 
-  number : (k : ℕ) (c : Column) → number_under s k c ≡ number_under t k c
+  pub number : (k : ℕ) (c : Column) → number_under s k c ≡ number_under t k c
   number k c = ap value (field k c)
 
   at : (line j : ℕ) → place s.number line j ≡ place t.number line j

@@ -14,12 +14,10 @@ use Rattle.bounds.specs.declared.overhead.Overhead.{Overhead}
 use Rattle.bounds.specs.declared.named.NamedTest.{NamedTest}
 use Rattle.study.specs.declared.study.Study.{Study}
 use Rattle.study.specs.declared.finding.Finding.{Finding}
-use Rattle.study.specs.declared.room.Room.{Room}
 use Rattle.study.specs.declared.state.State.{State}
 use Rattle.study.specs.declared.state.State.TheVariants as state
 use Rattle.study.specs.Counts.{verdicts, finding_in}
-use Rattle.study.specs.Moments.{Moment, rows_of}
-use Rattle.study.specs.Begins.{HasRoom}
+use Rattle.study.specs.Moments.{rows_of}
 use Rattle.study.specs.Histories.{Shown}
 use Rattle.study.proofs.Led.{leads_kept}
 use Rattle.sheets.specs.declared.sheet.Sheet.{Sheet}
