@@ -8,7 +8,8 @@ pub enum Verdict {
     Stopped,
 }
 
-/// What came of the answer: it passes, or this is the first task that does not, with its bound if it is not late.
+/// What came of the answer: it passes, or this is the first task that does not, with its bound if
+/// it is not late.
 #[derive(Clone, Copy, PartialEq, Eq, Debug)]
 pub enum Outcome<'a> {
     Passes,
@@ -16,7 +17,8 @@ pub enum Outcome<'a> {
 }
 
 // Two arrays and not one of pairs: an array of structs that hold a reference cannot be had.
-/// The verdict with its counts, the levels of the order that was found, and the outcome of the answer.
+/// The verdict with its counts, the levels of the order that was found, and the outcome of the
+/// answer.
 #[derive(Clone, Copy, PartialEq, Eq, Debug)]
 pub struct Report<'a> {
     pub verdict: Verdict,

@@ -5,7 +5,8 @@ ghost use Rattle.study.specs.Counts.{finding_in};
 ghost use Rattle.sheets.specs.declared.form.Form.TheVariants.{Tasks};
 ghost use Rattle.sheets.specs.Pairs.{count_of};
 ghost use Rattle.sheets.specs.Sheets.{IsFull};
-ghost use Rattle.marking.specs.Reports.{IsOfLines, HasHistory, SearchedTo, LevelsOf, BlankPast, LevelsIn, verdict_of, ShowsStudy, OutcomeOf};
+ghost use Rattle.marking.specs.Reports.{IsOfLines, HasHistory, SearchedTo, LevelsOf, BlankPast};
+ghost use Rattle.marking.specs.Reports.{LevelsIn, verdict_of, ShowsStudy, OutcomeOf};
 
 use crate::fields::field;
 use crate::report::{Outcome, Report, Verdict};
@@ -39,9 +40,11 @@ pub(crate) struct Levels<'a> {
 pub(crate) fn levels_of<'a>(tasks: &Sheet<'a>, finding: &Finding) -> Levels<'a>
     requires tasks { (tasks.now.form ≡ Tasks) × IsFull tasks.now }
     requires order { IsOfLines tasks.now finding.now.order }
-    ensures levels { LevelsOf tasks.now finding.now (count_of tasks.now) (map (λ n. n.now) result.names) result.estimates }
+    ensures levels { LevelsOf tasks.now finding.now (count_of tasks.now)
+        (map (λ n. n.now) result.names) result.estimates }
     ensures count { result.count ≡ count_of tasks.now }
-    ensures rest { BlankPast (count_of tasks.now) (map (λ n. n.now) result.names) result.estimates }
+    ensures rest { BlankPast (count_of tasks.now)
+        (map (λ n. n.now) result.names) result.estimates }
 {
     let mut names: [&'a [u8]; 32] = [&[]; 32];
     let mut estimates = [0; 32];
@@ -61,7 +64,8 @@ pub(crate) fn levels_of<'a>(tasks: &Sheet<'a>, finding: &Finding) -> Levels<'a>
 fn levels_in<'a>(tasks: &Sheet<'a>, state: State) -> Levels<'a>
     requires tasks { (tasks.now.form ≡ Tasks) × IsFull tasks.now }
     requires order { IfSome (finding_in state) (λ f. IsOfLines tasks.now f.order) }
-    ensures { LevelsIn tasks.now state result.count (map (λ n. n.now) result.names) result.estimates }
+    ensures { LevelsIn tasks.now state
+        result.count (map (λ n. n.now) result.names) result.estimates }
 {
     match state.finding() {
         Some(finding) => levels_of(tasks, &finding),
