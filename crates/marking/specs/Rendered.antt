@@ -1,4 +1,4 @@
--- The tables that are printed of a report and of a fault: their lines of fields, and so their bytes.
+-- The tables that are printed of a report and of a fault: their lines of fields, so their bytes.
 use Rattle.std.specs.Prelude.{ℕ, zero, suc, Option, None, Some, List, [], ◌∷◌, ◌++◌, map, length, min, codes, decimal}
 use Rattle.std.specs.Borrow.{Bor}
 use Rattle.table.specs.declared.fault.Fault.{Fault}
@@ -50,7 +50,8 @@ abbrev pub outcome_line : Outcome → List (List ℕ)
 outcome_line Passes = codes "passes" ∷ codes "-" ∷ codes "0" ∷ []
 outcome_line (Fails task bound) = codes "fails" ∷ task.now ∷ bound_text bound ∷ []
 
--- the lines of a report: a line of names and one of values, then one of names and one for each level, then one of names and one of the answer
+-- the lines of a report: a line of names and one of values, then one of names and one for each
+-- level, then one of names and one of the answer
 abbrev pub report_lines : Report → List (List (List ℕ))
 report_lines r =
     (codes "verdict" ∷ codes "ranges" ∷ codes "steps" ∷ [])
@@ -65,5 +66,9 @@ report_lines r =
 abbrev pub fault_lines : Fault → List (List (List ℕ))
 fault_lines f =
     (codes "fault" ∷ codes "sheet" ∷ codes "line" ∷ codes "field" ∷ [])
-    ∷ (decimal (number_of f) ∷ decimal (place_of f).sheet ∷ decimal (place_of f).line ∷ decimal (place_of f).field ∷ [])
+    ∷ (decimal (number_of f)
+    ∷ decimal (place_of f).sheet
+    ∷ decimal (place_of f).line
+    ∷ decimal (place_of f).field
+    ∷ [])
     ∷ []
