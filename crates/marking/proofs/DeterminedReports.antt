@@ -20,7 +20,7 @@ use Rattle.marking.proofs.Stays.{last_rows}
 use Rattle.table.proofs.View.{few_rows}
 use Rattle.bounds.specs.Orders.{FirstMiss}
 use Rattle.marking.proofs.DeterminedOutcomes.{one_miss, one_order, one_estimates, outcome_alike}
-use Rattle.marking.specs.Reports.{SameLevels, SameShown, SameOutcome, SameReport, OutcomeOf, board_answer, slots, names_of, verdict_of, LevelsIn, BlankPast, ShowsStudy, Marked}
+use Rattle.marking.specs.Reports.{SameLevels, SameShown, SameOutcome, SameReport, OutcomeOf, board_answer, slots, names_of, estimates_of, verdict_of, LevelsIn, BlankPast, ShowsStudy, Marked}
 use Rattle.study.proofs.OneDeed.{SameFinding}
 use Rattle.study.proofs.AlikeMoments.{SameState, same_state, same_found, Alike as AlikeMoments}
 use Rattle.study.proofs.AlikeSearches.{searched_alike}
@@ -67,13 +67,13 @@ module _ (tasks other : Sheet) (same : Alike tasks other) (n m : ℕ) (names oth
 shown_alike : (tasks other : Sheet) → Alike tasks other → (a b : Moment) → length (rows_of a) ≡ count_of tasks → AlikeMoments a b → (r q : Report) → ShowsStudy tasks a.study r → ShowsStudy other b.study q → SameShown r q
 shown_alike tasks other same a b size alike r q one two =
     let states : SameState (count_of tasks) a.study.state b.study.state = subst (λ n. SameState n a.study.state b.study.state) size alike.state in
-    let levels = levels_alike tasks other same r.levels q.levels (names_of r) (names_of q) r.estimates q.estimates a.study.state b.study.state states one.levels two.levels in
+    let levels = levels_alike tasks other same r.level_count q.level_count (names_of r.levels) (names_of q.levels) (estimates_of r.levels) (estimates_of q.levels) a.study.state b.study.state states one.levels two.levels in
     record {
       verdict = one.verdict ∙ verdict_alike _ a.study.state b.study.state states ∙ sym two.verdict;
       ranges = one.ranges ∙ alike.ledger ∙ sym two.ranges;
       steps = one.steps ∙ alike.steps ∙ sym two.steps;
-      levels = levels.0;
-      shown = levels.1;
+      level_count = levels.0;
+      levels = levels.1;
     }
 
 module _ (x y z : List ℕ) (r q : Report) (one : Marked x y z r) (two : Marked x y z q) where

@@ -11,7 +11,7 @@ use Rattle.marking.specs.declared.report.Verdict.TheVariants.{Found, None as NoO
 use Rattle.marking.specs.declared.report.Outcome.{Outcome}
 use Rattle.marking.specs.declared.report.Outcome.TheVariants.{Passes, Fails}
 use Rattle.marking.specs.declared.report.Report.{Report}
-use Rattle.marking.specs.Reports.{names_of}
+use Rattle.marking.specs.Reports.{names_of, estimates_of}
 
 -- a verdict's word
 abbrev pub word_of : Verdict → List ℕ
@@ -30,11 +30,12 @@ texts_of parts = map (λ part. part.now) parts
 
 -- the name of the task on a level; no byte where there is none
 abbrev pub task_on : Report → ℕ → List ℕ
-task_on r level = nth (names_of r) level []
+task_on r level = nth (names_of r.levels) level []
 
 -- the line of a level: the level, its task, and the task's estimate
 abbrev pub level_line : Report → ℕ → List (List ℕ)
-level_line r level = decimal level ∷ task_on r level ∷ decimal (nth r.estimates level 0) ∷ []
+level_line r level =
+    decimal level ∷ task_on r level ∷ decimal (nth (estimates_of r.levels) level 0) ∷ []
 
 -- the lines of the first n levels, from level 1 on
 unfoldable pub level_lines : Report → ℕ → List (List (List ℕ))
@@ -42,8 +43,8 @@ level_lines r zero = []
 level_lines r (suc n) = level_lines r n ++ level_line r (suc n) ∷ []
 
 -- how many levels are shown: as many as the report says, and no more than it has places for
-abbrev pub level_count : Report → ℕ
-level_count r = min r.levels (length r.tasks)
+abbrev pub levels_shown : Report → ℕ
+levels_shown r = min r.level_count (length r.levels)
 
 -- the line of the answer: that it passes, or the first task that fails, with its bound
 abbrev pub outcome_line : Outcome → List (List ℕ)
@@ -57,7 +58,7 @@ report_lines r =
     (codes "verdict" ∷ codes "ranges" ∷ codes "steps" ∷ [])
     ∷ (word_of r.verdict ∷ decimal r.ranges ∷ decimal r.steps ∷ [])
     ∷ (codes "level" ∷ name_of Task ∷ name_of Estimate ∷ [])
-    ∷ (level_lines r (level_count r)
+    ∷ (level_lines r (levels_shown r)
     ++ (codes "answer" ∷ name_of Task ∷ codes "bound" ∷ [])
     ∷ outcome_line r.outcome
     ∷ [])

@@ -27,6 +27,7 @@ use Rattle.sheets.specs.declared.sheet.Sheet.{Sheet}
 use Rattle.sheets.specs.declared.form.Form.TheVariants.{Board, Tasks, Answer}
 use Rattle.sheets.specs.Sheets.{ReadsText}
 use Rattle.sheets.specs.Pairs.{count_of, task_of, HasTaskAt, EachLine, EachRowOnce, Pairs}
+use Rattle.marking.specs.declared.report.Level.{Level}
 use Rattle.marking.specs.declared.report.Report.{Report}
 use Rattle.marking.specs.declared.report.Verdict.{Verdict}
 use Rattle.marking.specs.declared.report.Verdict.TheVariants as verdict
@@ -72,12 +73,17 @@ pub record SearchedTo (t : Overhead NamedTest) (before after : Study) : Type 0 w
   pub means : Means (board_answer t) last
   pub few : after.steps ≤ 97
 
--- the names of a report's levels, as bytes
-abbrev pub names_of : Report → List (List ℕ)
-names_of r = map (λ name. name.now) r.tasks
+-- the names on levels, as bytes
+abbrev pub names_of : List Level → List (List ℕ)
+names_of levels = map (λ level. level.task.now) levels
+
+-- the estimates on levels
+abbrev pub estimates_of : List Level → List ℕ
+estimates_of levels = map (λ level. level.estimate) levels
 
 -- Level by level, the first n, these are the names of a found order's tasks and their estimates.
-pub record LevelsOf (tasks : Sheet) (f : Finding) (n : ℕ) (names : List (List ℕ)) (estimates : List ℕ) : Type 0 where
+pub record LevelsOf (tasks : Sheet) (f : Finding) (n : ℕ)
+    (names : List (List ℕ)) (estimates : List ℕ) : Type 0 where
   pub named : EachLine (λ k. nth names k [] ≡ task_of tasks (nth f.order k 0)) n
   pub estimated : EachLine (λ k. nth estimates k 0 ≡ nth f.estimates (nth f.order k 0) 0) n
 
@@ -88,7 +94,8 @@ IsOfLines tasks order =
 
 -- past the last level stand no byte and 0
 abbrev pub BlankPast : ℕ → List (List ℕ) → List ℕ → Type 0
-BlankPast n names estimates = (k : ℕ) → n < k → (nth names k [] ≡ []) × (nth estimates k 0 ≡ 0)
+BlankPast n names estimates =
+    (k : ℕ) → n < k → (nth names k [] ≡ []) × (nth estimates k 0 ≡ 0)
 
 -- how a state is said: found, none, or stopped; a search leaves no other
 abbrev pub verdict_of : State → Verdict
@@ -100,14 +107,18 @@ verdict_of (state.Running room) = verdict.Stopped
 
 -- the levels of a state: those of the order that is found, one for each row, and otherwise none
 abbrev pub LevelsIn : Sheet → State → ℕ → List (List ℕ) → List ℕ → Type 0
-LevelsIn tasks s n names estimates = MatchOption (finding_in s) (n ≡ 0) (λ f. (n ≡ count_of tasks) × LevelsOf tasks f n names estimates) × BlankPast n names estimates
+LevelsIn tasks s n names estimates =
+    MatchOption (finding_in s)
+    (n ≡ 0)
+    (λ f. (n ≡ count_of tasks) × LevelsOf tasks f n names estimates)
+    × BlankPast n names estimates
 
 -- the report shows a study once it is searched: its verdict, its counts and its levels
 pub record ShowsStudy (tasks : Sheet) (s : Study) (r : Report) : Type 0 where
   pub verdict : r.verdict ≡ verdict_of s.state
   pub ranges : r.ranges ≡ s.ledger
   pub steps : r.steps ≡ s.steps
-  pub levels : LevelsIn tasks s.state r.levels (names_of r) r.estimates
+  pub levels : LevelsIn tasks s.state r.level_count (names_of r.levels) (estimates_of r.levels)
 
 -- what came of the answer: it passes where no task misses its estimate, or the first one that does
 -- is named, with its own answer
@@ -159,9 +170,11 @@ pub record ShowsOrder (t : Overhead NamedTest) (tasks : Sheet)
   pub holds : Holds (board_answer t) rows order
   pub lie : Estimates rows estimates
   pub passes : Passes (board_answer t) rows (as_range estimates) order
-  pub many : r.levels ≡ length rows
-  pub named : EachLine (λ k. nth (names_of r) k [] ≡ task_of tasks (nth order k 0)) r.levels
-  pub estimated : EachLine (λ k. nth r.estimates k 0 ≡ nth estimates (nth order k 0) 0) r.levels
+  pub many : r.level_count ≡ length rows
+  pub named : EachLine
+      (λ k. nth (names_of r.levels) k [] ≡ task_of tasks (nth order k 0)) r.level_count
+  pub estimated : EachLine
+      (λ k. nth (estimates_of r.levels) k 0 ≡ nth estimates (nth order k 0) 0) r.level_count
 
 -- What a verdict, its counts and its levels promise of these rows under a test.
 pub record Promises (t : Overhead NamedTest) (tasks : Sheet)
@@ -223,15 +236,18 @@ Marks x y z r = MatchResult r (Marked x y z) (Refused x y z)
 
 -- two lists of names, and two of estimates, are the same on every level
 abbrev pub SameLevels : List (List ℕ) → List (List ℕ) → List ℕ → List ℕ → Type 0
-SameLevels names others estimates numbers = (k : ℕ) → 1 ≤ k → (nth names k [] ≡ nth others k []) × (nth estimates k 0 ≡ nth numbers k 0)
+SameLevels names others estimates numbers =
+    (k : ℕ) → 1 ≤ k
+    → (nth names k [] ≡ nth others k []) × (nth estimates k 0 ≡ nth numbers k 0)
 
 -- two reports show the same of a search
 pub record SameShown (r q : Report) : Type 0 where
   pub verdict : r.verdict ≡ q.verdict
   pub ranges : r.ranges ≡ q.ranges
   pub steps : r.steps ≡ q.steps
-  pub levels : r.levels ≡ q.levels
-  pub shown : SameLevels (names_of r) (names_of q) r.estimates q.estimates
+  pub level_count : r.level_count ≡ q.level_count
+  pub levels : SameLevels
+      (names_of r.levels) (names_of q.levels) (estimates_of r.levels) (estimates_of q.levels)
 
 -- two outcomes are the same: both pass, or both name the same task with the same bound
 abbrev pub SameOutcome : Outcome → Outcome → Type 0

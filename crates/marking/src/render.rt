@@ -1,10 +1,10 @@
 // The bytes that are printed of a report and of a fault.
 ghost use Rattle.std.specs.Prelude.{◌≡◌, [], ◌∷◌, ◌++◌, OnOk, IfOk};
 ghost use Rattle.sheets.specs.Texts.{line_of, text_of};
-ghost use Rattle.marking.specs.Rendered.{texts_of, word_of, bound_text, level_count};
+ghost use Rattle.marking.specs.Rendered.{texts_of, word_of, bound_text, levels_shown};
 ghost use Rattle.marking.specs.Rendered.{level_lines, outcome_line, report_lines, fault_lines};
 
-use crate::report::{Outcome, Report, Verdict};
+use crate::report::{Level, Outcome, Report, Verdict};
 use itoa::Buffer;
 use sheets::Column;
 use std::alloc::{AllocError, Global};
@@ -40,17 +40,19 @@ fn push_line(out: &mut Vec<u8>, fields: &[&[u8]]) -> Result<(), AllocError>
 /// Adds the lines of the levels.
 fn push_levels(out: &mut Vec<u8>, report: &Report<'_>) -> Result<(), AllocError>
     ensures { OnOk result (out.new.items
-        ≡ out.old.items ++ text_of (level_lines report.now (level_count report.now))) }
+        ≡ out.old.items ++ text_of (level_lines report.now (levels_shown report.now))) }
 {
-    for place in 0..report.levels.min(report.tasks.len()) {
-        let mut level = Buffer::new();
+    let levels: &[Level<'_>] = &report.levels;
+    for place in 0..report.level_count.min(levels.len()) {
+        let level = levels[place];
+        let mut number = Buffer::new();
         let mut estimate = Buffer::new();
         push_line(
             out,
             &[
-                level.format(place + 1).as_bytes(),
-                report.tasks[place],
-                estimate.format(report.estimates[place]).as_bytes(),
+                number.format(place + 1).as_bytes(),
+                level.task,
+                estimate.format(level.estimate).as_bytes(),
             ],
         )?;
     }
