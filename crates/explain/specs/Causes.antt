@@ -6,7 +6,8 @@ use Rattle.explain.specs.declared.cause.Source.TheVariants as source
 use Rattle.explain.specs.declared.cause.Cause.{Cause}
 use Rattle.explain.specs.declared.cause.Cause.TheVariants.{Missing, Forbidden, NotRegular, Failed, Empty, TooLong, Unended}
 
--- what is wrong with a text: it is empty, or it has more than 4,096 bytes, or its last byte is no line feed
+-- what is wrong with a text: it is empty, or it has more than 4,096 bytes, or its last byte is no
+-- line feed
 abbrev pub cause_in : List ℕ → Option Cause
 cause_in text =
     if length text == 0 then Some Empty
@@ -14,7 +15,8 @@ cause_in text =
     else if nth text (length text) 0 == 10 then None
     else Some Unended
 
--- why question 1 fails of a text: how it was come by, where it was not read from its file, and otherwise what is wrong with it
+-- why question 1 fails of a text: how it was come by, where it was not read from its file, and
+-- otherwise what is wrong with it
 abbrev pub cause_of : Source → List ℕ → Option Cause
 cause_of source.File text = cause_in text
 cause_of source.Missing text = Some Missing

@@ -7,7 +7,8 @@ use Rattle.marking.specs.Reports.{Marks}
 use Rattle.explain.specs.declared.cause.Given.{Given}
 use Rattle.explain.specs.Explained.{lines_text, explanation}
 
--- Three texts are explained: behind the bytes that an output holds, where these are known, stand those of what is said of the texts' report or of their fault.
+-- Three texts are explained: what is said of their report or of their fault follows what the output
+-- held, where that is known.
 pub record Explains (board tasks answer : Given) (before after : Option (List ℕ)) : Type 0 where
   pub marked : Result Report Fault
   pub marks : Marks board.text.now tasks.text.now answer.text.now marked

@@ -1,7 +1,8 @@
 // What is said of a report and of a fault.
 ghost use Rattle.std.specs.Prelude.{◌≡◌, [], ◌∷◌, ◌++◌, IfOk, OnOk};
-ghost use Rattle.explain.specs.Explained.{lines_text, ends_in_return, given_of, cause_lines, hint_lines};
-ghost use Rattle.explain.specs.Explained.{fault_notes, explained_fault, explained_report, explanation};
+ghost use Rattle.explain.specs.Explained.{lines_text, ends_in_return, given_of, cause_lines};
+ghost use Rattle.explain.specs.Explained.{hint_lines, fault_notes};
+ghost use Rattle.explain.specs.Explained.{explained_fault, explained_report, explanation};
 
 use crate::cause::{Given, cause_of};
 use crate::file::form_at;

@@ -71,7 +71,8 @@ pub(crate) fn verdict_line(verdict: Verdict) -> &'static str
         Verdict::Found => "found: in this order no task is late under the board's test",
         Verdict::None => "none: each order of these tasks has a late task under the board's test",
         Verdict::Stopped => {
-            "stopped: the lists of the search are full, which says nothing of whether there is an order"
+            "stopped: the lists of the search are full, which says nothing of whether there is \
+             an order"
         }
     }
 }

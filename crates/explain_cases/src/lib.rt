@@ -10,7 +10,7 @@ mod tests {
     use explain::failure::print_failure;
     use explain::print::print_explained;
     use marking::mark::mark;
-    use marking::report::{Outcome, Report, Verdict};
+    use marking::report::{Level, Outcome, Report, Verdict};
     use std::alloc::AllocError;
     use std::io::ErrorKind;
     use std::process::{Abort, ExitCode};
@@ -259,9 +259,11 @@ mod tests {
             verdict: Verdict::Stopped,
             ranges: 96,
             steps: 97,
-            levels: 0,
-            tasks: [b""; 32],
-            estimates: [0; 32],
+            level_count: 0,
+            levels: [Level {
+                task: b"",
+                estimate: 0,
+            }; 32],
             outcome: Outcome::Passes,
         };
         let [board, tasks, answer] = [read(BOARD), read(TASKS), read(ANSWER)];

@@ -25,13 +25,15 @@ source_of kind.NotFound = Missing
 source_of kind.PermissionDenied = Forbidden
 source_of _ = Failed
 
--- The text is that of a sheet which an error keeps from being read: no byte. Want of memory leaves no text.
+-- The text is that of a sheet which an error keeps from being read: no byte. Want of memory leaves
+-- no text.
 pub record IsLost (error : Error) (text : Text) : Type 0 where
   pub memory : error_kind error ≢ kind.OutOfMemory
   pub bytes : text.bytes.items ≡ []
   pub source : text.source ≡ source_of (error_kind error)
 
--- The text is that of a stream which is read without an error: at most 4,097 bytes, and the first 4,097 of its bytes where these are known.
+-- The text is that of a stream which is read without an error: at most 4,097 bytes, and the first
+-- 4,097 of its bytes where these are known.
 pub record IsStart (known : Option (List ℕ)) (text : Text) : Type 0 where
   pub most : vec_len text.bytes ≤ 4097
   pub bytes : IfSome known (λ bytes. text.bytes.items ≡ take 4097 bytes)
@@ -44,7 +46,9 @@ pub record IsNoFile (text : Text) : Type 0 where
 
 -- three texts are printed
 abbrev pub PrintsTexts : Texts → Option (List ℕ) → Option (List ℕ) → ℕ → Type 0
-PrintsTexts texts before after status = Prints texts.board.bytes.items texts.tasks.bytes.items texts.answer.bytes.items before after status
+PrintsTexts texts before after status =
+    Prints texts.board.bytes.items texts.tasks.bytes.items texts.answer.bytes.items
+    before after status
 
 -- a text is given to be explained, with how it was come by
 abbrev pub IsGiven : Text → Given → Type 0
@@ -81,9 +85,11 @@ pub record ExplainsThree (before after said told : Option (List ℕ)) (status : 
   pub explains : ExplainsTexts texts said told
 
 module _ {S : Type 0} (remaining : S → Option (List ℕ)) (fails : S → Error → Type 0) where
-  -- the text is what is read of a stream, or that of a sheet which an error of a read keeps from being read
+  -- the text is what is read of a stream, or that of a sheet which an error of a read keeps from
+  -- being read
   abbrev pub IsRead : S → Text → Type 0
-  IsRead stream text = IsStart (remaining stream) text ⊎ ((error : Error) × fails stream error × IsLost error text)
+  IsRead stream text =
+      IsStart (remaining stream) text ⊎ ((error : Error) × fails stream error × IsLost error text)
 
   -- the text is that of what came of opening a file
   abbrev pub TextOf : Result (Option S) Error → Text → Type 0
@@ -92,31 +98,36 @@ module _ {S : Type 0} (remaining : S → Option (List ℕ)) (fails : S → Error
   TextOf (Ok (Some stream)) text = IsRead stream text
 
   -- The text is that of a sheet in a folder: of what came of opening the file at its path.
-  pub record IsSheetText (opens : List ℕ → Result (Option S) Error → Type 0) (folder : List ℕ) (form : Form) (text : Text) : Type 0 where
+  pub record IsSheetText (opens : List ℕ → Result (Option S) Error → Type 0) (folder : List ℕ)
+      (form : Form) (text : Text) : Type 0 where
     pub opened : Result (Option S) Error
     pub came : opens (path_of folder form) opened
     pub is : TextOf opened text
 
   -- three texts are those of the sheets in a folder
-  pub record AreTexts (opens : List ℕ → Result (Option S) Error → Type 0) (folder : List ℕ) (texts : Texts) : Type 0 where
+  pub record AreTexts (opens : List ℕ → Result (Option S) Error → Type 0) (folder : List ℕ)
+      (texts : Texts) : Type 0 where
     pub board : IsSheetText opens folder Board texts.board
     pub tasks : IsSheetText opens folder Tasks texts.tasks
     pub answer : IsSheetText opens folder Answer texts.answer
 
   -- the texts of the sheets in a folder are printed
-  pub record PrintsSheets (opens : List ℕ → Result (Option S) Error → Type 0) (folder : List ℕ) (before after : Option (List ℕ)) (status : ℕ) : Type 0 where
+  pub record PrintsSheets (opens : List ℕ → Result (Option S) Error → Type 0) (folder : List ℕ)
+      (before after : Option (List ℕ)) (status : ℕ) : Type 0 where
     pub texts : Texts
     pub are : AreTexts opens folder texts
     pub prints : PrintsTexts texts before after status
 
   -- the texts of the sheets in a folder are printed on one output, and explained on another
-  pub record ExplainsSheets (opens : List ℕ → Result (Option S) Error → Type 0) (folder : List ℕ) (before after said told : Option (List ℕ)) (status : ℕ) : Type 0 where
+  pub record ExplainsSheets (opens : List ℕ → Result (Option S) Error → Type 0) (folder : List ℕ)
+      (before after said told : Option (List ℕ)) (status : ℕ) : Type 0 where
     pub texts : Texts
     pub are : AreTexts opens folder texts
     pub prints : PrintsTexts texts before after status
     pub explains : ExplainsTexts texts said told
 
--- what came of opening a file may leave an error for want of memory: it is that error, or there is a stream to be read
+-- what came of opening a file may leave an error for want of memory: it is that error, or there is
+-- a stream to be read
 abbrev pub WantsMemory : {S : Type 0} → Result (Option S) Error → Error → Type 0
 WantsMemory (Err error) want = want ≡ error
 WantsMemory (Ok None) want = ⊥

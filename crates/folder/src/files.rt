@@ -10,7 +10,8 @@ use std::fs::{File, Files};
 use std::io::ErrorKind;
 use std::{fs, io};
 
-/// Opens a file to be read, if it is a regular one: a pipe would be waited for. No contract says which bytes it has.
+/// Opens a file to be read, if it is a regular one: a pipe would be waited for. No contract says
+/// which bytes it has.
 pub(crate) fn open_file<R: Files>(rt: &R, path: &str) -> io::Result<Option<Fallible<R::File>>> {
     if fs::metadata(rt, path)?.is_file() {
         Ok(Some(Fallible(File::open(rt, path)?)))

@@ -2,7 +2,8 @@
 ghost use Rattle.std.specs.Prelude.{IfOk, OnOk};
 ghost use Rattle.std.specs.Fn.{FnReturnsAt};
 ghost use Rattle.std.specs.Process.{exit_status};
-ghost use Rattle.folder.specs.Folders.{PrintsTexts, PrintsSheets, PrintsThree, ExplainsTexts, ExplainsSheets, ExplainsThree};
+ghost use Rattle.folder.specs.Folders.{PrintsTexts, PrintsSheets, PrintsThree};
+ghost use Rattle.folder.specs.Folders.{ExplainsTexts, ExplainsSheets, ExplainsThree};
 
 use crate::files::open_file;
 use crate::stream::Stream;
@@ -27,7 +28,8 @@ pub fn print_texts<W: Write>(alloc: Global, texts: &Texts, out: &mut W) -> io::R
     print_marks(alloc, board, tasks, answer, out)
 }
 
-/// Prints what there is to say of the three texts, and says what it means on another output; gives the status to end with.
+/// Prints what there is to say of the three texts, and says what it means on another output; gives
+/// the status to end with.
 pub fn explain_texts<W: Write, E: Write>(
     alloc: Global,
     texts: &Texts,
@@ -45,8 +47,8 @@ pub fn explain_texts<W: Write, E: Write>(
     print_explained(alloc, board, tasks, answer, out, err)
 }
 
-/// Prints what there is to say of the sheets in a folder, each of what the opener gives at its file's path, and gives the
-/// status to end with.
+/// Prints what there is to say of the sheets in a folder, each of what the opener gives at its
+/// file's path, and gives the status to end with.
 pub fn print_sheets<S: Stream, F: Fn(&str) -> io::Result<Option<S>>, W: Write>(
     alloc: Global,
     folder: &str,
@@ -74,8 +76,8 @@ pub fn print_folder<R: Files + AllocGlobal, W: Write>(
     print_sheets(rt.alloc(), folder, |path: &str| open_file(rt, path), out)
 }
 
-/// Prints what there is to say of the sheets in a folder, each of what the opener gives at its file's path, and says what it
-/// means on another output; gives the status to end with.
+/// Prints what there is to say of the sheets in a folder, each of what the opener gives at its
+/// file's path, and says what it means on another output; gives the status to end with.
 pub fn explain_sheets<S: Stream, F: Fn(&str) -> io::Result<Option<S>>, W: Write, E: Write>(
     alloc: Global,
     folder: &str,
@@ -92,8 +94,8 @@ pub fn explain_sheets<S: Stream, F: Fn(&str) -> io::Result<Option<S>>, W: Write,
     explain_texts(alloc, &read_sheets(alloc, folder, opener)?, out, err)
 }
 
-/// Prints what there is to say of the sheets in a folder, and says what it means on another output; gives the status to end
-/// with.
+/// Prints what there is to say of the sheets in a folder, and says what it means on another output;
+/// gives the status to end with.
 pub fn explain_folder<R: Files + AllocGlobal, W: Write, E: Write>(
     rt: &R,
     folder: &str,

@@ -1,5 +1,6 @@
 // The text of a sheet, from a stream.
-ghost use Rattle.std.specs.Prelude.{◌≡◌, take, length, IfOk, IfErr, IfSome, MatchResult, ◌⊎◌};
+ghost use Rattle.std.specs.Prelude.{◌≡◌, ◌⊎◌, take, length};
+ghost use Rattle.std.specs.Prelude.{IfOk, IfErr, IfSome, MatchResult};
 ghost use Rattle.std.specs.Io.{ReadsAtMost};
 ghost use Rattle.std.specs.Io.KnownBytes.{ReadConsumes};
 ghost use Rattle.std.specs.IoError.{error_kind};
@@ -13,11 +14,12 @@ use std::alloc::Global;
 use std::io;
 use std::io::ErrorKind;
 
-/// How many bytes of a file are read at most: one more than a sheet may have, so that a longer file is too long.
+/// How many bytes of a file are read at most: one more than a sheet may have, so that a longer file
+/// is too long.
 const MOST: usize = 4097;
 
-// One read. An interrupted one is no failure and is tried again, as the standard library does. Nobody can say how often,
-// so of 2^64 - 1 tries the last counts whatever it gives.
+// One read. An interrupted one is no failure and is tried again, as the standard library does.
+// Nobody can say how often, so of 2^64 - 1 tries the last counts whatever it gives.
 fn read_some<S: Stream>(stream: &mut S, room: &mut [u8]) -> io::Result<usize>
     ensures bound { ReadsAtMost result room.new }
     ensures bytes { ReadConsumes (S.remaining stream.old) (S.remaining stream.new) result room.new }

@@ -13,7 +13,8 @@ pub struct Text {
 impl Text {
     // The text to be explained, with how it was come by.
     pub(crate) fn given(&self) -> Given<'_>
-        ensures { (result.text.now ≡ self.now.bytes.items) × (result.source ≡ self.now.source) }
+        ensures text { result.text.now ≡ self.now.bytes.items }
+        ensures source { result.source ≡ self.now.source }
     {
         Given {
             text: &self.bytes,

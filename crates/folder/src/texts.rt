@@ -37,7 +37,8 @@ fn read_sheet<S: Stream, F: Fn(&str) -> io::Result<Option<S>>>(
     read_text(alloc, opener(&path))
 }
 
-/// The texts of the sheets in a folder, each of what the opener gives at its file's path. The one error is want of memory.
+/// The texts of the sheets in a folder, each of what the opener gives at its file's path. The one
+/// error is want of memory.
 pub fn read_sheets<S: Stream, F: Fn(&str) -> io::Result<Option<S>>>(
     alloc: Global,
     folder: &str,

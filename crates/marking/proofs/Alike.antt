@@ -42,19 +42,19 @@ module _ (p q : ℕ → Type 0) (to : (k : ℕ) → p k → q k) (n m : ℕ) (ma
   each_again each k low high = to k (each k low (subst (λ x. k ≤ x) (sym many) high))
 
   first_again : ((k : ℕ) → q k → p k) → (k : ℕ) → FirstLine p n k → FirstLine q m k
-  first_again from k first = (first.0, subst (λ x. k ≤ x) many first.1, λ met. first.2 (from k met), λ i low high. to i (first.3 i low high))
+  first_again from k first = (first.0, subst (λ x. k ≤ x) many first.1, λ holds. first.2 (from k holds), λ i low high. to i (first.3 i low high))
 
 module _ (s t : Sheet) (like : Alike s t) where
   left : (c : Column) → left_of s c ≡ left_of t c
   left c = ap (position_or_len (λ d. bytes_eq (name_of d) (name_of c))) like.columns
 
-  count : count_of s ≡ count_of t
+  pub count : count_of s ≡ count_of t
   count = ap length like.values
 
-  field : (k : ℕ) (c : Column) → field_of s k c ≡ field_of t k c
+  pub field : (k : ℕ) (c : Column) → field_of s k c ≡ field_of t k c
   field k c = ap (λ (v : List (List (List ℕ))). nth (nth v k []) (left_of s c + 1) []) like.values ∙ ap (λ l. nth (nth (values_of t) k []) (l + 1) []) (left c)
 
-  number : (k : ℕ) (c : Column) → number_under s k c ≡ number_under t k c
+  pub number : (k : ℕ) (c : Column) → number_under s k c ≡ number_under t k c
   number k c = ap value (field k c)
 
   at : (line j : ℕ) → place s.number line j ≡ place t.number line j
@@ -89,11 +89,11 @@ has_task s t u v on of k has = (has.0, subst (λ name. HasTaskAt t name has.0) (
 has_test : (s t : Sheet) → Alike s t → HasTest s → HasTest t
 has_test s t like has c = suits s t like c (has c)
 
-test_misses : (s t : Sheet) → Alike s t → (f : Fault) → TestFails s f → TestFails t f
-test_misses s t like f m = (
+test_fails : (s t : Sheet) → Alike s t → (f : Fault) → TestFails s f → TestFails t f
+test_fails s t like f m = (
   m.0,
   m.1 ∙ ap BadTest (under s t like 2 m.0),
-  λ met. m.2 (suits t s (back s t like) m.0 met),
+  λ holds. m.2 (suits t s (back s t like) m.0 holds),
   λ d l. suits s t like d (m.3 d (subst (λ n. left_of s d < n) (sym (left s t like m.0)) (subst (λ n. n < left_of t m.0) (sym (left s t like d)) l))),
 )
 
@@ -128,13 +128,13 @@ module _ (s t : Sheet) (tasks : Alike s t) (u v : Sheet) (answer : Alike u v) wh
   answer_again : Alike v u
   answer_again = back u v answer
 
-  pair_misses : (f : Fault) → PairFails s u f → PairFails t v f
-  pair_misses (RepeatedTask p) m = (
+  pair_fails : (f : Fault) → PairFails s u f → PairFails t v f
+  pair_fails (RepeatedTask p) m = (
     m.0,
     m.1 ∙ under s t tasks (m.0 + 1) Task,
     first_again (IsNewName s) (IsNewName t) (is_new s t tasks) (count_of s) (count_of t) (count s t tasks) (is_new t s tasks_again) m.0 m.2,
   )
-  pair_misses (BadAnswer p) m = (
+  pair_fails (BadAnswer p) m = (
     each_new s t tasks u v answer m.0,
     (
       m.1.0,
@@ -142,7 +142,7 @@ module _ (s t : Sheet) (tasks : Alike s t) (u v : Sheet) (answer : Alike u v) wh
       first_again (Answers s u) (Answers t v) (answers s t tasks u v answer) (count_of u) (count_of v) (count u v answer) (answers t s tasks_again v u answer_again) m.1.0 m.1.2,
     ),
   )
-  pair_misses (NoAnswer p) m = (
+  pair_fails (NoAnswer p) m = (
     each_new s t tasks u v answer m.0,
     each_answers s t tasks u v answer m.1,
     (
@@ -151,26 +151,26 @@ module _ (s t : Sheet) (tasks : Alike s t) (u v : Sheet) (answer : Alike u v) wh
       first_again (IsAnswered s u) (IsAnswered t v) (has_task u v s t answer tasks) (count_of s) (count_of t) (count s t tasks) (has_task v u t s answer_again tasks_again) m.2.0 m.2.2,
     ),
   )
-  pair_misses f m = absurd m
+  pair_fails f m = absurd m
 
-  row_misses : (f : Fault) → RowFails s f → RowFails t f
-  row_misses f m = (
+  row_fails : (f : Fault) → RowFails s f → RowFails t f
+  row_fails f m = (
     m.0,
     m.1 ∙ ap BadRow (at s t tasks (m.0 + 1) 0),
     first_again (HasRow s) (HasRow t) (has_row s t tasks) (count_of s) (count_of t) (count s t tasks) (has_row t s tasks_again) m.0 m.2,
   )
 
-  estimate_misses : (f : Fault) → EstimateFails s u f → EstimateFails t v f
-  estimate_misses f m = (
+  estimate_fails : (f : Fault) → EstimateFails s u f → EstimateFails t v f
+  estimate_fails f m = (
     m.0,
     m.1 ∙ ap BadOrder (under u v answer (m.0 + 1) Estimate),
     first_again (HasEstimate s u) (HasEstimate t v) (has_estimate s t tasks u v answer) (count_of u) (count_of v) (count u v answer) (has_estimate t s tasks_again v u answer_again) m.0 m.2,
   )
 
 -- three sheets, each read twice, have the same faults
-pub sheets_miss : (b c : Sheet) → Alike b c → (s t : Sheet) → Alike s t → (u v : Sheet) → Alike u v → (f : Fault) → SheetsFail b s u f → SheetsFail c t v f
-sheets_miss b c board s t tasks u v answer f (by_test m) = by_test (test_misses b c board f m)
-sheets_miss b c board s t tasks u v answer f (by_pair has m) = by_pair (has_test b c board has) (pair_misses s t tasks u v answer f m)
-sheets_miss b c board s t tasks u v answer f (by_row has paired m) = by_row (has_test b c board has) (is_paired s t tasks u v answer paired) (row_misses s t tasks u v answer f m)
-sheets_miss b c board s t tasks u v answer f (by_estimate has paired rows m) =
-    by_estimate (has_test b c board has) (is_paired s t tasks u v answer paired) (each_row s t tasks u v answer rows) (estimate_misses s t tasks u v answer f m)
+pub sheets_fail : (b c : Sheet) → Alike b c → (s t : Sheet) → Alike s t → (u v : Sheet) → Alike u v → (f : Fault) → SheetsFail b s u f → SheetsFail c t v f
+sheets_fail b c board s t tasks u v answer f (by_test m) = by_test (test_fails b c board f m)
+sheets_fail b c board s t tasks u v answer f (by_pair has m) = by_pair (has_test b c board has) (pair_fails s t tasks u v answer f m)
+sheets_fail b c board s t tasks u v answer f (by_row has paired m) = by_row (has_test b c board has) (is_paired s t tasks u v answer paired) (row_fails s t tasks u v answer f m)
+sheets_fail b c board s t tasks u v answer f (by_estimate has paired rows m) =
+    by_estimate (has_test b c board has) (is_paired s t tasks u v answer paired) (each_row s t tasks u v answer rows) (estimate_fails s t tasks u v answer f m)

@@ -1,5 +1,5 @@
 -- The order and the estimates of an answer, and what a check of them gives.
-use Rattle.std.proofs.Common.{◌<◌, ◌≡◌, ℕ, ◌+◌, ◌-◌, ◌≤◌, List, length, take, Ok, Err, Some, None, Option, Result, sym, ap, subst, ◌∙◌, arith}
+use Rattle.std.proofs.Common.{◌<◌, ◌≡◌, ℕ, ◌+◌, ◌≤◌, List, length, take, Ok, Err, Some, None, Option, Result, sym, ap, subst, ◌∙◌, arith}
 use Rattle.std.specs.Option.{IfSome}
 use Rattle.std.proofs.lemmas.List.{length-take, get_or-take}
 use Rattle.table.specs.declared.row.Row.{Row}
@@ -7,7 +7,7 @@ use Rattle.table.specs.declared.fault.Fault.{Fault}
 use Rattle.table.specs.Rows.{view}
 use Rattle.table.specs.Places.{nth}
 use Rattle.table.proofs.Asked.{ok_err}
-use Rattle.table.proofs.Placed.{nth_at, nth_next}
+use Rattle.table.proofs.Placed.{nth_next}
 use Rattle.bounds.specs.declared.miss.Miss.{Miss}
 use Rattle.bounds.specs.Orders.{Order, Estimates, FirstMiss, Checks}
 use Rattle.sheets.specs.declared.form.Column.TheVariants.{Wcet, Deadline, Estimate}

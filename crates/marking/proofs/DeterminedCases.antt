@@ -1,5 +1,5 @@
 -- Sheets that are alike have one test and one list of rows.
-use Rattle.std.proofs.Common.{◌≡◌, ℕ, ◌+◌, ◌≤◌, List, length, get_or, sym, ap, subst, ◌∙◌, arith}
+use Rattle.std.proofs.Common.{◌≡◌, ℕ, ◌+◌, ◌≤◌, List, get_or, sym, ap, subst, ◌∙◌, arith}
 use Rattle.std.proofs.Props.{props}
 use Rattle.std.proofs.lemmas.List.{ext_get_or}
 use Rattle.table.specs.declared.row.Row.{Row}
@@ -11,15 +11,13 @@ use Rattle.bounds.specs.declared.overhead.Overhead.{Overhead}
 use Rattle.bounds.specs.declared.named.NamedTest.{NamedTest}
 use Rattle.bounds.specs.declared.named.NamedTest.TheVariants.{ByDeadline, ByResponse, ByLimited}
 use Rattle.bounds.specs.Named.{IsNamed}
-use Rattle.sheets.specs.declared.form.Column.{Column}
 use Rattle.sheets.specs.declared.form.Column.TheVariants.{Processors as M, Overhead as V, Test, Wcet, Period, Deadline}
 use Rattle.sheets.specs.declared.sheet.Sheet.{Sheet}
-use Rattle.sheets.specs.Fields.{value}
 use Rattle.sheets.specs.Sheets.{field_of}
 use Rattle.sheets.specs.Pairs.{count_of}
 use Rattle.marking.specs.Questions.{number_under, IsTest}
 use Rattle.marking.specs.Reports.{RowsOf}
-use Rattle.marking.proofs.DeterminedSheets.{SameSheet, same_field}
+use Rattle.marking.proofs.Alike.{Alike, count, field, number}
 
 abbrev InRange : ℕ → Type 0
 InRange count = (1 ≤ count) × (count ≤ 16)
@@ -74,30 +72,24 @@ same_overhead t u added below =
     subst (λ a. (ok : a ≤ 1000000) → t ≡ overhead a u.below ok) added
     (subst (λ b. (ok : t.added ≤ 1000000) → t ≡ overhead t.added b ok) below (λ ok. ap (overhead t.added t.below) (few_proof t.added t.ok ok))) u.ok
 
-pub same_number : (s u : Sheet) → SameSheet s u → (k : ℕ) (c : Column) → number_under s k c ≡ number_under u k c
-same_number s u same k c = ap value (same_field s u same k c)
-
-pub one_test : (s u : Sheet) → SameSheet s u → (t o : Overhead NamedTest) → IsTest s t → IsTest u o → t ≡ o
+pub one_test : (s u : Sheet) → Alike s u → (t o : Overhead NamedTest) → IsTest s t → IsTest u o → t ≡ o
 one_test s u same t o a b =
-    same_overhead t o (a.0 ∙ same_number s u same 1 V ∙ sym b.0)
+    same_overhead t o (a.0 ∙ number s u same 1 V ∙ sym b.0)
     (one_named (field_of u 1 Test) (number_under u 1 M) t.below o.below
-    (subst (λ m. IsNamed (field_of u 1 Test) m t.below) (same_number s u same 1 M) (subst (λ name. IsNamed name (number_under s 1 M) t.below) (same_field s u same 1 Test) a.1))
+    (subst (λ m. IsNamed (field_of u 1 Test) m t.below) (number s u same 1 M) (subst (λ name. IsNamed name (number_under s 1 M) t.below) (field s u same 1 Test) a.1))
     b.1)
 
-pub same_count : (s u : Sheet) → SameSheet s u → count_of s ≡ count_of u
-same_count s u same = ap (λ (x : List (List (List ℕ))). length x) same.values
-
-pub one_rows : (s u : Sheet) → SameSheet s u → (rows others : List Row) → RowsOf s (count_of s) rows → RowsOf u (count_of u) others → rows ≡ others
+pub one_rows : (s u : Sheet) → Alike s u → (rows others : List Row) → RowsOf s (count_of s) rows → RowsOf u (count_of u) others → rows ≡ others
 one_rows s u same rows others a b =
-    ext_get_or filler rows others (a.size ∙ same_count s u same ∙ sym b.size)
+    ext_get_or filler rows others (a.size ∙ count s u same ∙ sym b.size)
     (λ j inside.
     let of = a.each (j + 1) (omega arith) (omega (arith, a.size)) in
-    let of' = b.each (j + 1) (omega arith) (omega (arith, a.size, same_count s u same)) in
+    let of' = b.each (j + 1) (omega arith) (omega (arith, a.size, count s u same)) in
     sym (nth_next rows j filler)
     ∙ same_row (row rows (j + 1)) (row others (j + 1))
     (λ i. record {
-      wcet = (of.0 ∙ same_number s u same (j + 1) Wcet ∙ sym of'.0) i;
-      period = (of.1 ∙ same_number s u same (j + 1) Period ∙ sym of'.1) i;
-      deadline = (of.2 ∙ same_number s u same (j + 1) Deadline ∙ sym of'.2) i;
+      wcet = (of.0 ∙ number s u same (j + 1) Wcet ∙ sym of'.0) i;
+      period = (of.1 ∙ number s u same (j + 1) Period ∙ sym of'.1) i;
+      deadline = (of.2 ∙ number s u same (j + 1) Deadline ∙ sym of'.2) i;
     })
     ∙ nth_next others j filler)

@@ -18,8 +18,7 @@ use Rattle.marking.specs.declared.report.Outcome.TheVariants as outcome
 use Rattle.marking.specs.Reports.{SameOutcome, AnswerOf, OutcomeOf}
 use Rattle.study.proofs.Standing.{nth_taken}
 use Rattle.marking.proofs.Claimed.{one_row}
-use Rattle.marking.proofs.DeterminedSheets.{SameSheet, same_field}
-use Rattle.marking.proofs.DeterminedCases.{same_number, same_count}
+use Rattle.marking.proofs.Alike.{Alike, count, field, number}
 use Rattle.bounds.specs.Questions.{Meaning}
 
 module _ (meaning : Meaning) (rows : List Row) (order estimates : List ℕ) where
@@ -71,7 +70,7 @@ module _ (tasks answer : Sheet) (paired : IsPaired tasks answer) (order : List �
   pub as_many : count_of answer ≡ count_of tasks
   as_many = (pairs_in_order tasks answer (Ok (padded (take n order))) (paired.0, paired.1, paired.2, rows_named)).0
 
-module _ (tasks other answer another : Sheet) (same : SameSheet tasks other) (same' : SameSheet answer another) (paired : IsPaired tasks answer) (few : count_of tasks ≤ 32)
+module _ (tasks other answer another : Sheet) (same : Alike tasks other) (same' : Alike answer another) (paired : IsPaired tasks answer) (few : count_of tasks ≤ 32)
     (order order' estimates estimates' : List ℕ) (one : AnswerOf tasks answer order estimates) (two : AnswerOf other another order' estimates') where
   many : count_of answer ≡ count_of tasks
   many = as_many tasks answer paired order one.named one.size few
@@ -79,15 +78,15 @@ module _ (tasks other answer another : Sheet) (same : SameSheet tasks other) (sa
   -- the other answer's line names a task of the first sheet
   named_here : (k : ℕ) → 1 ≤ k → k ≤ count_of answer → HasTaskAt tasks (task_of answer k) (nth order' k 0)
   named_here k low high =
-      let there = two.named k low (omega (arith, high, same_count answer another same')) in
-      (there.0, omega (arith, there.1, same_count tasks other same), same_field tasks other same (nth order' k 0) Task ∙ there.2 ∙ sym (same_field answer another same' k Task))
+      let there = two.named k low (omega (arith, high, count answer another same')) in
+      (there.0, omega (arith, there.1, count tasks other same), field tasks other same (nth order' k 0) Task ∙ there.2 ∙ sym (field answer another same' k Task))
 
   same_place : (k : ℕ) → 1 ≤ k → k ≤ count_of answer → nth order k 0 ≡ nth order' k 0
   same_place k low high = one_row tasks paired.0 (task_of answer k) (nth order k 0) (nth order' k 0) (one.named k low high) (named_here k low high)
 
   pub one_order : order ≡ order'
   one_order =
-      ext_get_or 0 order order' (one.size ∙ same_count tasks other same ∙ sym two.size)
+      ext_get_or 0 order order' (one.size ∙ count tasks other same ∙ sym two.size)
       (λ j inside. sym (nth_next order j 0) ∙ same_place (j + 1) (omega arith) (omega (arith, one.size, many)) ∙ nth_next order' j 0)
 
   same_estimate : (k : ℕ) → 1 ≤ k → k ≤ count_of tasks → nth estimates k 0 ≡ nth estimates' k 0
@@ -97,18 +96,18 @@ module _ (tasks other answer another : Sheet) (same : SameSheet tasks other) (sa
       let at = line.1 in
       let here : nth order l 0 ≡ k = one_row tasks paired.0 (task_of answer l) (nth order l 0) k (one.named l at.0 at.1) (low, high, sym at.2) in
       let there : nth order' l 0 ≡ k = sym (same_place l at.0 at.1) ∙ here in
-      ap (λ j. nth estimates j 0) (sym here) ∙ one.estimated l at.0 at.1 ∙ same_number answer another same' l Estimate ∙ sym (two.estimated l at.0 (omega (arith, at.1, same_count answer another same'))) ∙ ap (λ j. nth estimates' j 0) there
+      ap (λ j. nth estimates j 0) (sym here) ∙ one.estimated l at.0 at.1 ∙ number answer another same' l Estimate ∙ sym (two.estimated l at.0 (omega (arith, at.1, count answer another same'))) ∙ ap (λ j. nth estimates' j 0) there
 
   pub one_estimates : estimates ≡ estimates'
   one_estimates =
-      ext_get_or 0 estimates estimates' (one.many ∙ same_count tasks other same ∙ sym two.many)
+      ext_get_or 0 estimates estimates' (one.many ∙ count tasks other same ∙ sym two.many)
       (λ j inside. sym (nth_next estimates j 0) ∙ same_estimate (j + 1) (omega arith) (omega (arith, one.many)) ∙ nth_next estimates' j 0)
 
 -- the same miss has the same outcome
-pub outcome_alike : (tasks other : Sheet) → SameSheet tasks other → (miss : Option Miss) (o p : Outcome) → OutcomeOf tasks miss o → OutcomeOf other miss p → SameOutcome o p
+pub outcome_alike : (tasks other : Sheet) → Alike tasks other → (miss : Option Miss) (o p : Outcome) → OutcomeOf tasks miss o → OutcomeOf other miss p → SameOutcome o p
 outcome_alike tasks other same None outcome.Passes outcome.Passes a b = tt
 outcome_alike tasks other same None outcome.Passes (outcome.Fails task bound) a b = absurd b
 outcome_alike tasks other same None (outcome.Fails task bound) p a b = absurd a
 outcome_alike tasks other same (Some miss) outcome.Passes p a b = absurd a
 outcome_alike tasks other same (Some miss) (outcome.Fails task bound) outcome.Passes a b = absurd b
-outcome_alike tasks other same (Some miss) (outcome.Fails task bound) (outcome.Fails task' bound') a b = (a.0 ∙ same_field tasks other same miss.task Task ∙ sym b.0, a.1 ∙ sym b.1)
+outcome_alike tasks other same (Some miss) (outcome.Fails task bound) (outcome.Fails task' bound') a b = (a.0 ∙ field tasks other same miss.task Task ∙ sym b.0, a.1 ∙ sym b.1)

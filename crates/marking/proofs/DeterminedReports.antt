@@ -20,18 +20,18 @@ use Rattle.marking.proofs.Stays.{last_rows}
 use Rattle.table.proofs.View.{few_rows}
 use Rattle.bounds.specs.Orders.{FirstMiss}
 use Rattle.marking.proofs.DeterminedOutcomes.{one_miss, one_order, one_estimates, outcome_alike}
-use Rattle.marking.specs.Reports.{SameLevels, SameShown, SameOutcome, SameReport, OutcomeOf, board_answer, slots, names_of, verdict_of, LevelsIn, BlankPast, ShowsStudy, Marked}
+use Rattle.marking.specs.Reports.{SameLevels, SameShown, SameOutcome, SameReport, OutcomeOf, board_answer, slots, names_of, estimates_of, verdict_of, LevelsIn, BlankPast, ShowsStudy, Marked}
 use Rattle.study.proofs.OneDeed.{SameFinding}
-use Rattle.study.proofs.AlikeMoments.{SameState, same_state, same_found, Alike}
+use Rattle.study.proofs.AlikeMoments.{SameState, same_state, same_found, Alike as AlikeMoments}
 use Rattle.study.proofs.AlikeSearches.{searched_alike}
-use Rattle.marking.proofs.DeterminedSheets.{SameSheet, one_sheet, same_field}
-use Rattle.marking.proofs.DeterminedCases.{one_test, same_count, one_rows}
+use Rattle.marking.proofs.Alike.{Alike, read_alike, count, field}
+use Rattle.marking.proofs.DeterminedCases.{one_test, one_rows}
 
 verdict_alike : (n : ℕ) (s u : State) → SameState n s u → verdict_of s ≡ verdict_of u
 verdict_alike n s u (same_state v) = refl
 verdict_alike n s u (same_found f g both) = refl
 
-module _ (tasks other : Sheet) (same : SameSheet tasks other) (n m : ℕ) (names others : List (List ℕ)) (estimates numbers : List ℕ) where
+module _ (tasks other : Sheet) (same : Alike tasks other) (n m : ℕ) (names others : List (List ℕ)) (estimates numbers : List ℕ) where
   past : n ≡ m → BlankPast n names estimates → BlankPast m others numbers → (k : ℕ) → n < k → (nth names k [] ≡ nth others k []) × (nth estimates k 0 ≡ nth numbers k 0)
   past is blank blank' k above =
       let here = blank k above in
@@ -40,13 +40,13 @@ module _ (tasks other : Sheet) (same : SameSheet tasks other) (n m : ℕ) (names
 
   levels_found : (f g : Finding) → SameFinding (count_of tasks) f g → LevelsIn tasks (state.Found f) n names estimates → LevelsIn other (state.Found g) m others numbers → (n ≡ m) × SameLevels names others estimates numbers
   levels_found f g both a b =
-      let is : n ≡ m = a.0.0 ∙ same_count tasks other same ∙ sym b.0.0 in (
+      let is : n ≡ m = a.0.0 ∙ count tasks other same ∙ sym b.0.0 in (
         is,
         λ k low. elim (cases_lt n k) [
           | inl above ↦ past is a.1 b.1 k above
           | inr inside ↦
               let place = both.order k low (omega (arith, a.0.0)) in (
-                a.0.1.named k low (omega arith) ∙ ap (task_of tasks) place ∙ same_field tasks other same (nth g.order k 0) Task ∙ sym (b.0.1.named k low (omega arith)),
+                a.0.1.named k low (omega arith) ∙ ap (task_of tasks) place ∙ field tasks other same (nth g.order k 0) Task ∙ sym (b.0.1.named k low (omega arith)),
                 a.0.1.estimated k low (omega arith) ∙ ap (λ j. nth f.estimates j 0) place ∙ ap (λ (xs : List ℕ). nth xs (nth g.order k 0) 0) both.estimates ∙ sym (b.0.1.estimated k low (omega arith)),
               )
         ],
@@ -64,27 +64,27 @@ module _ (tasks other : Sheet) (same : SameSheet tasks other) (n m : ℕ) (names
   levels_alike s u (same_found f g both) a b = levels_found f g both a b
 
 -- what two searches of the same rows show is the same
-shown_alike : (tasks other : Sheet) → SameSheet tasks other → (a b : Moment) → length (rows_of a) ≡ count_of tasks → Alike a b → (r q : Report) → ShowsStudy tasks a.study r → ShowsStudy other b.study q → SameShown r q
+shown_alike : (tasks other : Sheet) → Alike tasks other → (a b : Moment) → length (rows_of a) ≡ count_of tasks → AlikeMoments a b → (r q : Report) → ShowsStudy tasks a.study r → ShowsStudy other b.study q → SameShown r q
 shown_alike tasks other same a b size alike r q one two =
     let states : SameState (count_of tasks) a.study.state b.study.state = subst (λ n. SameState n a.study.state b.study.state) size alike.state in
-    let levels = levels_alike tasks other same r.levels q.levels (names_of r) (names_of q) r.estimates q.estimates a.study.state b.study.state states one.levels two.levels in
+    let levels = levels_alike tasks other same r.level_count q.level_count (names_of r.levels) (names_of q.levels) (estimates_of r.levels) (estimates_of q.levels) a.study.state b.study.state states one.levels two.levels in
     record {
       verdict = one.verdict ∙ verdict_alike _ a.study.state b.study.state states ∙ sym two.verdict;
       ranges = one.ranges ∙ alike.ledger_count ∙ sym two.ranges;
       steps = one.steps ∙ alike.steps ∙ sym two.steps;
-      levels = levels.0;
-      shown = levels.1;
+      level_count = levels.0;
+      levels = levels.1;
     }
 
 module _ (x y z : List ℕ) (r q : Report) (one : Marked x y z r) (two : Marked x y z q) where
-  pub same_board : SameSheet one.board two.board
-  same_board = one_sheet Board _ x one.board two.board one.read.0 two.read.0
+  pub same_board : Alike one.board two.board
+  same_board = read_alike Board _ x one.board two.board one.read.0 two.read.0
 
-  pub same_tasks : SameSheet one.tasks two.tasks
-  same_tasks = one_sheet Tasks _ y one.tasks two.tasks one.read.1 two.read.1
+  pub same_tasks : Alike one.tasks two.tasks
+  same_tasks = read_alike Tasks _ y one.tasks two.tasks one.read.1 two.read.1
 
-  pub same_answer : SameSheet one.answer two.answer
-  same_answer = one_sheet Answer _ z one.answer two.answer one.read.2 two.read.2
+  pub same_answer : Alike one.answer two.answer
+  same_answer = read_alike Answer _ z one.answer two.answer one.read.2 two.read.2
 
   pub same_test : one.test ≡ two.test
   same_test = one_test one.board two.board same_board one.test two.test one.is_test two.is_test
@@ -92,7 +92,7 @@ module _ (x y z : List ℕ) (r q : Report) (one : Marked x y z r) (two : Marked 
   pub same_rows : view one.reports.before.table ≡ view two.reports.before.table
   same_rows = one_rows one.tasks two.tasks same_tasks (view one.reports.before.table) (view two.reports.before.table) one.reports.rows two.reports.rows
 
-  pub same_search : Alike one.reports.searched.last two.reports.searched.last
+  pub same_search : AlikeMoments one.reports.searched.last two.reports.searched.last
   same_search =
       let search = one.reports.searched in
       let search' = two.reports.searched in

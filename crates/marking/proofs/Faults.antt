@@ -15,7 +15,7 @@ module _ (question : ℕ → Type 0) (n : ℕ) where
   one_line : (k l : ℕ) → FirstLine question n k → FirstLine question n l → k ≡ l
   one_line k l a b = level k l (λ low. a.2 (b.3 k a.0 low)) (λ low. b.2 (a.3 l b.0 low))
 
-  -- and none is where each meets it
+  -- and no line is, where it holds of each
   none_first : (k : ℕ) → EachLine question n → FirstLine question n k → ⊥
   none_first k each first = first.2 (each k first.0 first.1)
 

@@ -5,7 +5,6 @@ pub mod Counted
 pub mod DeterminedCases
 pub mod DeterminedOutcomes
 pub mod DeterminedReports
-pub mod DeterminedSheets
 pub mod Ended
 pub mod Faults
 pub mod Full

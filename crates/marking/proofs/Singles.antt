@@ -11,7 +11,7 @@ use Rattle.sheets.specs.declared.sheet.Sheet.{Sheet}
 use Rattle.marking.specs.declared.report.Report.{Report}
 use Rattle.marking.specs.Reports.{Read, Marked, Refused}
 use Rattle.marking.specs.Questions.{IsForm, sheet_of, TextsFail, in_board, in_tasks, in_answer, SheetsFail}
-use Rattle.marking.proofs.Alike.{read_alike, sheets_miss}
+use Rattle.marking.proofs.Alike.{read_alike, sheets_fail}
 use Rattle.marking.proofs.Faults.{no_sheets_fault, one_sheets_fault}
 
 -- what is a sheet has no fault
@@ -39,7 +39,7 @@ not_read x y z f (in_answer p q a) board tasks answer read = no_fault Answer (sh
 -- the sheets of one reading have the faults of another's
 sheets_again : (x y z : List ℕ) (b t a c u d : Sheet) → Read x y z b t a → Read x y z c u d → (f : Fault) → SheetsFail c u d f → SheetsFail b t a f
 sheets_again x y z b t a c u d one other f m =
-    sheets_miss c b (read_alike Board (sheet_of Board) x c b other.0 one.0) u t (read_alike Tasks (sheet_of Tasks) y u t other.1 one.1) d a (read_alike Answer (sheet_of Answer) z d a other.2 one.2) f m
+    sheets_fail c b (read_alike Board (sheet_of Board) x c b other.0 one.0) u t (read_alike Tasks (sheet_of Tasks) y u t other.1 one.1) d a (read_alike Answer (sheet_of Answer) z d a other.2 one.2) f m
 
 -- three texts have one fault at most
 pub one_refusal : (x y z : List ℕ) (f g : Fault) → Refused x y z f → Refused x y z g → f ≡ g

@@ -14,12 +14,10 @@ use Rattle.bounds.specs.declared.overhead.Overhead.{Overhead}
 use Rattle.bounds.specs.declared.named.NamedTest.{NamedTest}
 use Rattle.study.specs.declared.study.Study.{Study}
 use Rattle.study.specs.declared.finding.Finding.{Finding}
-use Rattle.study.specs.declared.room.Room.{Room}
 use Rattle.study.specs.declared.state.State.{State}
 use Rattle.study.specs.declared.state.State.TheVariants as state
 use Rattle.study.specs.Counts.{verdicts, finding_in}
-use Rattle.study.specs.Moments.{Moment, rows_of}
-use Rattle.study.specs.Begins.{HasRoom}
+use Rattle.study.specs.Moments.{rows_of}
 use Rattle.study.specs.Histories.{Shown}
 use Rattle.study.proofs.Led.{leads_kept}
 use Rattle.sheets.specs.declared.sheet.Sheet.{Sheet}
@@ -28,7 +26,7 @@ use Rattle.study.proofs.Standing.{nth_taken}
 use Rattle.marking.specs.declared.report.Report.{Report}
 use Rattle.marking.specs.declared.report.Verdict.{Verdict}
 use Rattle.marking.specs.declared.report.Verdict.TheVariants as verdict
-use Rattle.marking.specs.Reports.{board_answer, IsOfLines, RowsOf, SearchedTo, ShowsStudy, LevelsOf, LevelsIn, verdict_of, names_of, ShowsOrder, Promises}
+use Rattle.marking.specs.Reports.{board_answer, IsOfLines, RowsOf, SearchedTo, ShowsStudy, LevelsOf, LevelsIn, verdict_of, names_of, estimates_of, ShowsOrder, Promises}
 
 pub answer_laws : (t : Overhead NamedTest) → Laws (board_answer t)
 answer_laws = over_laws named_laws
@@ -76,12 +74,12 @@ module _ (t : Overhead NamedTest) (tasks : Sheet) (before after : Study) (search
   abbrev Found : Type 0
   Found = ShowsOrder t tasks rows r
 
-  found_order : (f : Finding) → after.state ≡ state.Found f → r.levels ≡ count_of tasks → LevelsOf tasks f r.levels (names_of r) r.estimates → Found
+  found_order : (f : Finding) → after.state ≡ state.Found f → r.level_count ≡ count_of tasks → LevelsOf tasks f r.level_count (names_of r.levels) (estimates_of r.levels) → Found
   found_order f is many levels =
       let n = length rows in
       let shown = shown_order t before after search f is in
-      let same : r.levels ≡ n = omega (arith, many, of.size) in
-      let placed : (k : ℕ) → 1 ≤ k → k ≤ r.levels → nth (take n f.order) k 0 ≡ nth f.order k 0 = λ k low high. nth_taken n f.order k low (omega (arith, same)) in
+      let same : r.level_count ≡ n = omega (arith, many, of.size) in
+      let placed : (k : ℕ) → 1 ≤ k → k ≤ r.level_count → nth (take n f.order) k 0 ≡ nth f.order k 0 = λ k low high. nth_taken n f.order k low (omega (arith, same)) in
       record {
         order = take n f.order;
         estimates = take n f.estimates;
@@ -97,7 +95,7 @@ module _ (t : Overhead NamedTest) (tasks : Sheet) (before after : Study) (search
             levels.estimated k low high ∙ ap (λ i. nth f.estimates i 0) (sym (placed k low high)) ∙ sym (nth_taken n f.estimates (nth (take n f.order) k 0) (omega (arith, at.0, here)) (omega (arith, at.1, here)));
       }
 
-  found_in : (s : State) → after.state ≡ s → LevelsIn tasks s r.levels (names_of r) r.estimates → code (verdict_of s) ≡ 0 → Found
+  found_in : (s : State) → after.state ≡ s → LevelsIn tasks s r.level_count (names_of r.levels) (estimates_of r.levels) → code (verdict_of s) ≡ 0 → Found
   found_in state.Draft is levels found = absurd (omega (arith, found))
   found_in (state.Running room) is levels found = absurd (omega (arith, found))
   found_in (state.Found f) is levels found = found_order f is levels.0.0 levels.0.1

@@ -5,8 +5,11 @@ use Rattle.std.proofs.lemmas.List.Concat.{flat_map-append}
 use Rattle.std.specs.Borrow.{Bor}
 use Rattle.sheets.specs.Texts.{line_of, text_of}
 use Rattle.sheets.proofs.Parts.{get_or-map}
+use Rattle.table.specs.Places.{nth}
 use Rattle.table.proofs.Placed.{nth_next}
+use Rattle.marking.specs.declared.report.Level.{Level}
 use Rattle.marking.specs.declared.report.Report.{Report}
+use Rattle.marking.specs.Reports.{names_of, estimates_of}
 use Rattle.marking.specs.Rendered.{texts_of, task_on, level_line, level_lines}
 
 -- fields with a space before each
@@ -66,23 +69,29 @@ text-more out more lines line before e =
     ∙ append_assoc (text_of lines) (line_of line) (10 ∷ [])
     ∙ text-one lines line
 
--- the name of the task in a place
-task-at : (r : Report) (place : ℕ) → task_on r (place + 1) ≡ (get_or r.tasks place (record { ref_ptr = (0, 0); now = [] })).now
-task-at r place = nth_next (texts_of r.tasks) place [] ∙ get_or-map (λ part. part.now) r.tasks place (record { ref_ptr = (0, 0); now = [] })
+-- the level in a place; where there is none, no byte and 0
+abbrev level-in : Report → ℕ → Level
+level-in r place = get_or r.levels place (record { task = record { ref_ptr = (0, 0); now = [] }; estimate = 0 })
+
+task-at : (r : Report) (place : ℕ) → task_on r (place + 1) ≡ (level-in r place).task.now
+task-at r place = nth_next (names_of r.levels) place [] ∙ get_or-map (λ (level : Level). level.task.now) r.levels place _
+
+estimate-at : (r : Report) (place : ℕ) → nth (estimates_of r.levels) (place + 1) 0 ≡ (level-in r place).estimate
+estimate-at r place = nth_next (estimates_of r.levels) place 0 ∙ get_or-map (λ (level : Level). level.estimate) r.levels place _
 
 lines-next : (r : Report) (n : ℕ) → level_lines r (n + 1) ≡ level_lines r n ++ level_line r (n + 1) ∷ []
 unfolding level_lines
 lines-next r n = rw (add-one n) refl
 
 -- one level more
-pub levels-more : (out before more : List ℕ) (r : Report) (n : ℕ) (level estimate : List ℕ) → level ≡ decimal (n + 1) → estimate ≡ decimal (get_or r.estimates n 0) → before ≡ out ++ text_of (level_lines r n) → more ≡ before ++ line_of (level ∷ (get_or r.tasks n (record { ref_ptr = (0, 0); now = [] })).now ∷ estimate ∷ []) ++ 10 ∷ [] → more ≡ out ++ text_of (level_lines r (n + 1))
+pub levels-more : (out before more : List ℕ) (r : Report) (n : ℕ) (level estimate : List ℕ) → level ≡ decimal (n + 1) → estimate ≡ decimal (level-in r n).estimate → before ≡ out ++ text_of (level_lines r n) → more ≡ before ++ line_of (level ∷ (level-in r n).task.now ∷ estimate ∷ []) ++ 10 ∷ [] → more ≡ out ++ text_of (level_lines r (n + 1))
 levels-more out before more r n level estimate is_level is_estimate e f =
-    let line : level ∷ (get_or r.tasks n (record { ref_ptr = (0, 0); now = [] })).now ∷ estimate ∷ [] ≡ level_line r (n + 1)
-    = ap (λ l. l ∷ (get_or r.tasks n (record { ref_ptr = (0, 0); now = [] })).now ∷ estimate ∷ []) is_level
+    let line : level ∷ (level-in r n).task.now ∷ estimate ∷ [] ≡ level_line r (n + 1)
+    = ap (λ l. l ∷ (level-in r n).task.now ∷ estimate ∷ []) is_level
     ∙ ap (λ l. decimal (n + 1) ∷ l ∷ estimate ∷ []) (sym (task-at r n))
-    ∙ ap (λ l. decimal (n + 1) ∷ task_on r (n + 1) ∷ l ∷ []) (is_estimate ∙ ap decimal (sym (nth_next r.estimates n 0))) in
+    ∙ ap (λ l. decimal (n + 1) ∷ task_on r (n + 1) ∷ l ∷ []) (is_estimate ∙ ap decimal (sym (estimate-at r n))) in
     f
-    ∙ ap (λ l. l ++ line_of (level ∷ (get_or r.tasks n (record { ref_ptr = (0, 0); now = [] })).now ∷ estimate ∷ []) ++ 10 ∷ []) e
+    ∙ ap (λ l. l ++ line_of (level ∷ (level-in r n).task.now ∷ estimate ∷ []) ++ 10 ∷ []) e
     ∙ ap (λ l. out ++ text_of (level_lines r n) ++ line_of l ++ 10 ∷ []) line
     ∙ append_assoc (out ++ text_of (level_lines r n)) (line_of (level_line r (n + 1))) (10 ∷ [])
     ∙ append_assoc out (text_of (level_lines r n)) (line_of (level_line r (n + 1)) ++ 10 ∷ [])

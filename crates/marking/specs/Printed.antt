@@ -17,13 +17,17 @@ abbrev pub status_after : Result Report Fault → ℕ
 status_after (Ok report) = 0
 status_after (Err fault) = 1
 
--- A report or a fault is printed: behind the bytes that an output holds, where these are known, stand its own, and the status is that after it.
-pub record PrintsMarked (marked : Result Report Fault) (before after : Option (List ℕ)) (status : ℕ) : Type 0 where
+-- A report or a fault is printed: its bytes follow what the output held, where that is known, and
+-- the status is that after it.
+pub record PrintsMarked (marked : Result Report Fault)
+    (before after : Option (List ℕ)) (status : ℕ) : Type 0 where
   pub writes : Appends before after (text_of (printed_lines marked))
   pub ends : status ≡ status_after marked
 
--- Three texts are printed: behind the bytes that an output holds, where these are known, stand those of the texts' report or of their fault, and the status is that after it.
-pub record Prints (board tasks answer : List ℕ) (before after : Option (List ℕ)) (status : ℕ) : Type 0 where
+-- Three texts are printed: the bytes of their report or of their fault follow what the output held,
+-- where that is known, and the status is that after it.
+pub record Prints (board tasks answer : List ℕ)
+    (before after : Option (List ℕ)) (status : ℕ) : Type 0 where
   pub marked : Result Report Fault
   pub marks : Marks board tasks answer marked
   pub writes : Appends before after (text_of (printed_lines marked))

@@ -33,7 +33,9 @@ fn misfit(board: &Sheet<'_>, allowed: bool) -> Option<Place>
 /// The board's test, under an overhead of its V.
 pub(crate) fn test_of(board: &Sheet<'_>) -> Result<Overhead<NamedTest>, Fault>
     requires { (board.now.form ≡ Board) × (count_of board.now ≡ 1) × IsFull board.now }
-    ensures { MatchResult result (λ test. HasTest board.now × IsTest board.now test) (λ fault. TestFails board.now fault) }
+    ensures { MatchResult result
+        (λ test. HasTest board.now × IsTest board.now test)
+        (λ fault. TestFails board.now fault) }
 {
     let processors = Processors::new(number(board, 1, Column::Processors));
     if let Some(place) = misfit(board, processors.is_ok()) {

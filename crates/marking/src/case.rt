@@ -37,10 +37,13 @@ impl Case {
         tasks: &Sheet<'_>,
         answer: &Sheet<'_>,
     ) -> Result<Case, Fault>
-        requires board { (board.now.form ≡ Board) × (count_of board.now ≡ 1) × IsFull board.now }
+        requires board { (board.now.form ≡ Board) × (count_of board.now ≡ 1)
+            × IsFull board.now }
         requires tasks { (tasks.now.form ≡ Tasks) × IsFull tasks.now }
         requires answer { (answer.now.form ≡ Answer) × IsFull answer.now }
-        ensures { MatchResult result (λ case. CaseOf board.now tasks.now answer.now case) (λ fault. SheetsFail board.now tasks.now answer.now fault) }
+        ensures { MatchResult result
+            (λ case. CaseOf board.now tasks.now answer.now case)
+            (λ fault. SheetsFail board.now tasks.now answer.now fault) }
     {
         let test = test_of(board)?;
         let order = pair(tasks, answer)?;
@@ -54,15 +57,18 @@ impl Case {
         })
     }
 
-    /// What came of the answer. The check is not refused: the answer is an order, with an estimate for each row.
+    /// What came of the answer. The check is not refused: the answer is an order, with an estimate
+    /// for each row.
     pub(crate) fn outcome<'a>(
         &self,
         tasks: &Sheet<'a>,
         answer: &Sheet<'_>,
     ) -> Result<Outcome<'a>, Fault>
-        requires tasks { (tasks.now.form ≡ Tasks) × IsFull tasks.now × (1 ≤ count_of tasks.now) }
+        requires tasks { (tasks.now.form ≡ Tasks) × IsFull tasks.now
+            × (1 ≤ count_of tasks.now) }
         requires case { (board : OneSheet) × CaseOf board tasks.now answer.now self.now }
-        ensures { (o : OneOutcome) × (result ≡ Ok o) × ChecksAnswer self.now.test (view self.now.study.table) tasks.now answer.now o }
+        ensures { (o : OneOutcome) × (result ≡ Ok o)
+            × ChecksAnswer self.now.test (view self.now.study.table) tasks.now answer.now o }
     {
         let order = &self.order[..answer.len()];
         let estimates = &self.estimates[..tasks.len()];
@@ -76,7 +82,8 @@ impl Case {
         tasks: &Sheet<'a>,
         answer: &Sheet<'_>,
     ) -> Result<Report<'a>, Fault>
-        requires tasks { (tasks.now.form ≡ Tasks) × IsFull tasks.now × (1 ≤ count_of tasks.now) }
+        requires tasks { (tasks.now.form ≡ Tasks) × IsFull tasks.now
+            × (1 ≤ count_of tasks.now) }
         requires case { (board : OneSheet) × CaseOf board tasks.now answer.now self }
         ensures { (r : OneReport) × (result ≡ Ok r) × Reports self.test tasks.now answer.now r }
     {

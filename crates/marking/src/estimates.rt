@@ -1,5 +1,6 @@
 // The estimates of an answer.
-ghost use Rattle.std.specs.Prelude.{◌≡◌, ◌≤◌, ◌↔◌, IsTrue, Ok, length, MatchResult};
+ghost use Rattle.std.specs.Prelude.{◌≡◌, ◌≤◌, ◌↔◌};
+ghost use Rattle.std.specs.Prelude.{IsTrue, Ok, length, MatchResult};
 ghost use Rattle.sheets.specs.declared.form.Form.TheVariants.{Tasks, Answer};
 ghost use Rattle.sheets.specs.Pairs.{count_of, EachLine, EachRowOnce, Pairs};
 ghost use Rattle.sheets.specs.Sheets.{IsFull};
@@ -25,8 +26,13 @@ pub(crate) fn estimates_of(
 ) -> Result<[u32; 32], Fault>
     requires tasks { (tasks.now.form ≡ Tasks) × IsFull tasks.now }
     requires answer { (answer.now.form ≡ Answer) × IsFull answer.now }
-    requires order { Pairs tasks.now answer.now (Ok order.now) × EachRowOnce tasks.now answer.now order.now }
-    ensures { MatchResult result (λ estimates. EachLine (HasEstimate tasks.now answer.now) (count_of answer.now) × EstimatesOf answer.now order.now estimates (count_of answer.now) × (length estimates ≡ 32)) (λ fault. EstimateFails tasks.now answer.now fault) }
+    requires order { Pairs tasks.now answer.now (Ok order.now)
+        × EachRowOnce tasks.now answer.now order.now }
+    ensures { MatchResult result
+        (λ estimates. EachLine (HasEstimate tasks.now answer.now) (count_of answer.now)
+        × EstimatesOf answer.now order.now estimates (count_of answer.now)
+        × (length estimates ≡ 32))
+        (λ fault. EstimateFails tasks.now answer.now fault) }
 {
     let mut estimates = [0; 32];
     for i in 0..answer.len() {

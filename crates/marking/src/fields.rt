@@ -1,7 +1,6 @@
 // The fields of a sheet that was read, where they are known to be there.
-ghost use Rattle.std.specs.Prelude.{◌≡◌, ◌+◌};
-ghost use Rattle.sheets.specs.Forms.{place};
-ghost use Rattle.sheets.specs.Sheets.{left_of, HasField, field_of};
+ghost use Rattle.std.specs.Prelude.{◌≡◌};
+ghost use Rattle.sheets.specs.Sheets.{HasField, field_of, field_place};
 ghost use Rattle.marking.specs.Questions.{number_under, HasNumber};
 
 use sheets::{Column, Field, Sheet};
@@ -10,7 +9,7 @@ use sheets::{Column, Field, Sheet};
 pub(crate) fn field<'a>(sheet: &Sheet<'a>, k: usize, column: Column) -> Field<'a>
     requires { HasField sheet.now k column }
     ensures bytes { result.bytes.now ≡ field_of sheet.now k column }
-    ensures place { result.place ≡ place sheet.now.number (k + 1) (left_of sheet.now column + 1) }
+    ensures place { result.place ≡ field_place sheet.now k column }
 {
     sheet.field(k, column).unwrap()
 }

@@ -39,7 +39,8 @@ pub fn print_marked<W: Write>(
     marked: &Result<Report<'_>, Fault>,
     out: &mut W,
 ) -> io::Result<ExitCode>
-    ensures { IfOk result (λ status. PrintsMarked marked.now (W.contents out.old) (W.contents out.new) (exit_status status)) }
+    ensures { IfOk result (λ status. PrintsMarked marked.now
+        (W.contents out.old) (W.contents out.new) (exit_status status)) }
 {
     out.write_all(&render(alloc, marked)?)?;
     Ok(status_after(marked))
@@ -53,7 +54,8 @@ pub fn print_marks<W: Write>(
     answer: &[u8],
     out: &mut W,
 ) -> io::Result<ExitCode>
-    ensures { IfOk result (λ status. Prints board.now tasks.now answer.now (W.contents out.old) (W.contents out.new) (exit_status status)) }
+    ensures { IfOk result (λ status. Prints board.now tasks.now answer.now
+        (W.contents out.old) (W.contents out.new) (exit_status status)) }
 {
     let marked = mark(board, tasks, answer);
     print_marked(alloc, &marked, out)

@@ -1,9 +1,10 @@
 // The bytes that are printed of a report and of a fault.
 ghost use Rattle.std.specs.Prelude.{◌≡◌, [], ◌∷◌, ◌++◌, OnOk, IfOk};
 ghost use Rattle.sheets.specs.Texts.{line_of, text_of};
-ghost use Rattle.marking.specs.Rendered.{texts_of, word_of, bound_text, level_count, level_lines, outcome_line, report_lines, fault_lines};
+ghost use Rattle.marking.specs.Rendered.{texts_of, word_of, bound_text, levels_shown};
+ghost use Rattle.marking.specs.Rendered.{level_lines, outcome_line, report_lines, fault_lines};
 
-use crate::report::{Outcome, Report, Verdict};
+use crate::report::{Level, Outcome, Report, Verdict};
 use itoa::Buffer;
 use sheets::Column;
 use std::alloc::{AllocError, Global};
@@ -22,7 +23,8 @@ fn word(verdict: Verdict) -> &'static [u8]
 
 /// Adds a line: the fields with one space between two, and a line feed.
 fn push_line(out: &mut Vec<u8>, fields: &[&[u8]]) -> Result<(), AllocError>
-    ensures { OnOk result (out.new.items ≡ out.old.items ++ line_of (texts_of fields.now) ++ 10 ∷ []) }
+    ensures { OnOk result
+        (out.new.items ≡ out.old.items ++ line_of (texts_of fields.now) ++ 10 ∷ []) }
 {
     if let [first, rest @ ..] = fields {
         out.extend_from_slice(first)?;
@@ -37,17 +39,20 @@ fn push_line(out: &mut Vec<u8>, fields: &[&[u8]]) -> Result<(), AllocError>
 
 /// Adds the lines of the levels.
 fn push_levels(out: &mut Vec<u8>, report: &Report<'_>) -> Result<(), AllocError>
-    ensures { OnOk result (out.new.items ≡ out.old.items ++ text_of (level_lines report.now (level_count report.now))) }
+    ensures { OnOk result (out.new.items
+        ≡ out.old.items ++ text_of (level_lines report.now (levels_shown report.now))) }
 {
-    for place in 0..report.levels.min(report.tasks.len()) {
-        let mut level = Buffer::new();
+    let levels: &[Level<'_>] = &report.levels;
+    for place in 0..report.level_count.min(levels.len()) {
+        let level = levels[place];
+        let mut number = Buffer::new();
         let mut estimate = Buffer::new();
         push_line(
             out,
             &[
-                level.format(place + 1).as_bytes(),
-                report.tasks[place],
-                estimate.format(report.estimates[place]).as_bytes(),
+                number.format(place + 1).as_bytes(),
+                level.task,
+                estimate.format(level.estimate).as_bytes(),
             ],
         )?;
     }
@@ -66,7 +71,8 @@ fn bound_text(buffer: &mut Buffer, bound: Option<u32>) -> &[u8]
 
 /// Adds the line of the answer.
 fn push_outcome(out: &mut Vec<u8>, outcome: &Outcome<'_>) -> Result<(), AllocError>
-    ensures { OnOk result (out.new.items ≡ out.old.items ++ line_of (outcome_line outcome.now) ++ 10 ∷ []) }
+    ensures { OnOk result
+        (out.new.items ≡ out.old.items ++ line_of (outcome_line outcome.now) ++ 10 ∷ []) }
 {
     match *outcome {
         Outcome::Passes => push_line(out, &[b"passes", b"-", b"0"]),

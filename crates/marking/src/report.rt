@@ -8,15 +8,23 @@ pub enum Verdict {
     Stopped,
 }
 
-/// What came of the answer: it passes, or this is the first task that does not, with its bound if it is not late.
+/// What came of the answer: it passes, or this is the first task that does not, with its bound if
+/// it is not late.
 #[derive(Clone, Copy, PartialEq, Eq, Debug)]
 pub enum Outcome<'a> {
     Passes,
     Fails { task: &'a [u8], bound: Option<u32> },
 }
 
-// Two arrays and not one of pairs: an array of structs that hold a reference cannot be had.
-/// The verdict with its counts, the levels of the order that was found, and the outcome of the answer.
+/// A level of the order that was found: the name of its task, and the task's estimate.
+#[derive(Clone, Copy, PartialEq, Eq, Debug)]
+pub struct Level<'a> {
+    pub task: &'a [u8],
+    pub estimate: u32,
+}
+
+/// The verdict with its counts, the levels of the order that was found, and the outcome of the
+/// answer.
 #[derive(Clone, Copy, PartialEq, Eq, Debug)]
 pub struct Report<'a> {
     pub verdict: Verdict,
@@ -24,10 +32,8 @@ pub struct Report<'a> {
     pub ranges: usize,
     pub steps: usize,
     /// How many levels there are: one a task where an order was found, and otherwise none.
-    pub levels: usize,
-    /// The name of the task on each level, the highest first, and no byte past the last.
-    pub tasks: [&'a [u8]; 32],
-    /// Its estimate, and 0 past the last.
-    pub estimates: [u32; 32],
+    pub level_count: usize,
+    /// The levels, the highest first. Past the last the name has no byte, and the estimate is 0.
+    pub levels: [Level<'a>; 32],
     pub outcome: Outcome<'a>,
 }

@@ -14,7 +14,8 @@ use table::{Fault, Numbers, Place};
 
 // A line as a whole, where a field of it stands.
 fn whole_line(place: Place) -> Place
-    ensures { (result.sheet ≡ place.sheet) × (result.line ≡ place.line) × (result.field ≡ 0) }
+    ensures { (result.sheet ≡ place.sheet) × (result.line ≡ place.line)
+        × (result.field ≡ 0) }
 {
     Place { field: 0, ..place }
 }
@@ -36,7 +37,8 @@ fn numbers_at(tasks: &Sheet<'_>, k: usize) -> Numbers
 pub(crate) fn study_of(tasks: &Sheet<'_>) -> Result<Study, Fault>
     requires { (tasks.now.form ≡ Tasks) × IsFull tasks.now }
     ensures { MatchResult result
-        (λ s. EachLine (HasRow tasks.now) (count_of tasks.now) × RowsOf tasks.now (count_of tasks.now) (view s.table) × HasHistory s)
+        (λ s. EachLine (HasRow tasks.now) (count_of tasks.now)
+        × RowsOf tasks.now (count_of tasks.now) (view s.table) × HasHistory s)
         (λ fault. RowFails tasks.now fault) }
 {
     let mut study = Study::new();

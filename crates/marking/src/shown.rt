@@ -1,14 +1,16 @@
 // What a report shows of a search and of an answer.
-ghost use Rattle.std.specs.Prelude.{◌≡◌, ◌≤◌, Ok, map, length, take, IfSome};
+ghost use Rattle.std.specs.Prelude.{◌≡◌, ◌≤◌, Ok, length, take, IfSome};
 ghost use Rattle.table.specs.Rows.{view};
 ghost use Rattle.study.specs.Counts.{finding_in};
 ghost use Rattle.sheets.specs.declared.form.Form.TheVariants.{Tasks};
 ghost use Rattle.sheets.specs.Pairs.{count_of};
 ghost use Rattle.sheets.specs.Sheets.{IsFull};
-ghost use Rattle.marking.specs.Reports.{IsOfLines, HasHistory, SearchedTo, LevelsOf, BlankPast, LevelsIn, verdict_of, ShowsStudy, OutcomeOf};
+ghost use Rattle.marking.specs.Reports.{IsOfLines, HasHistory, SearchedTo, LevelsOf, BlankPast};
+ghost use Rattle.marking.specs.Reports.{names_of, estimates_of, LevelsIn};
+ghost use Rattle.marking.specs.Reports.{verdict_of, ShowsStudy, OutcomeOf};
 
 use crate::fields::field;
-use crate::report::{Outcome, Report, Verdict};
+use crate::report::{Level, Outcome, Report, Verdict};
 use bounds::{Miss, NamedTest, Overhead};
 use sheets::{Column, Sheet};
 use study::{Finding, State, Study};
@@ -27,49 +29,41 @@ pub(crate) fn search(test: &Overhead<NamedTest>, study: &mut Study) -> Result<()
     study.search(test, &mut ledger, &mut pending)
 }
 
-/// The names of an order's tasks and their estimates, by level.
-#[derive(Clone, Copy)]
-pub(crate) struct Levels<'a> {
-    pub count: usize,
-    pub names: [&'a [u8]; 32],
-    pub estimates: [u32; 32],
-}
+// A place past the last level.
+const NO_LEVEL: Level<'static> = Level {
+    task: &[],
+    estimate: 0,
+};
 
 /// The levels of an order that was found.
-pub(crate) fn levels_of<'a>(tasks: &Sheet<'a>, finding: &Finding) -> Levels<'a>
+pub(crate) fn levels_of<'a>(tasks: &Sheet<'a>, finding: &Finding) -> [Level<'a>; 32]
     requires tasks { (tasks.now.form ≡ Tasks) × IsFull tasks.now }
     requires order { IsOfLines tasks.now finding.now.order }
-    ensures levels { LevelsOf tasks.now finding.now (count_of tasks.now) (map (λ n. n.now) result.names) result.estimates }
-    ensures count { result.count ≡ count_of tasks.now }
-    ensures rest { BlankPast (count_of tasks.now) (map (λ n. n.now) result.names) result.estimates }
+    ensures levels { LevelsOf tasks.now finding.now (count_of tasks.now)
+        (names_of result) (estimates_of result) }
+    ensures rest { BlankPast (count_of tasks.now) (names_of result) (estimates_of result) }
 {
-    let mut names: [&'a [u8]; 32] = [&[]; 32];
-    let mut estimates = [0; 32];
+    let mut levels: [Level<'a>; 32] = [NO_LEVEL; 32];
     for i in 0..tasks.len() {
         let task = finding.order[i];
-        names[i] = field(tasks, task, Column::Task).bytes;
-        estimates[i] = finding.estimates[task - 1];
+        levels[i] = Level {
+            task: field(tasks, task, Column::Task).bytes,
+            estimate: finding.estimates[task - 1],
+        };
     }
-    Levels {
-        count: tasks.len(),
-        names,
-        estimates,
-    }
+    levels
 }
 
-// The levels of a state: none where no order was found.
-fn levels_in<'a>(tasks: &Sheet<'a>, state: State) -> Levels<'a>
+// How many levels a state has, and these: none where no order was found.
+fn levels_in<'a>(tasks: &Sheet<'a>, state: State) -> (usize, [Level<'a>; 32])
     requires tasks { (tasks.now.form ≡ Tasks) × IsFull tasks.now }
     requires order { IfSome (finding_in state) (λ f. IsOfLines tasks.now f.order) }
-    ensures { LevelsIn tasks.now state result.count (map (λ n. n.now) result.names) result.estimates }
+    ensures { LevelsIn tasks.now state
+        result.0 (names_of result.1) (estimates_of result.1) }
 {
     match state.finding() {
-        Some(finding) => levels_of(tasks, &finding),
-        None => Levels {
-            count: 0,
-            names: [&[]; 32],
-            estimates: [0; 32],
-        },
+        Some(finding) => (tasks.len(), levels_of(tasks, &finding)),
+        None => (0, [NO_LEVEL; 32]),
     }
 }
 
@@ -91,14 +85,13 @@ pub(crate) fn report_of<'a>(tasks: &Sheet<'a>, study: &Study, outcome: Outcome<'
     ensures study { ShowsStudy tasks.now study.now result }
     ensures outcome { result.outcome ≡ outcome.entry }
 {
-    let levels = levels_in(tasks, study.state());
+    let (level_count, levels) = levels_in(tasks, study.state());
     Report {
         verdict: verdict_of(study.state()),
         ranges: study.ledger_count(),
         steps: study.steps(),
-        levels: levels.count,
-        tasks: levels.names,
-        estimates: levels.estimates,
+        level_count,
+        levels,
         outcome,
     }
 }

@@ -221,21 +221,16 @@ mod tests {
 
     // The report shows these levels, and nothing past them.
     fn shows(rt: &impl Abort, report: &Report<'_>, levels: &[(&str, u32)]) {
-        let Report {
-            tasks,
-            estimates,
-            ..
-        } = *report;
-        assert_eq!(rt; report.levels, levels.len());
+        assert_eq!(rt; report.level_count, levels.len());
         for (i, (name, estimate)) in levels.iter().enumerate().take(32) {
-            let task = tasks[i];
-            assert!(rt; task == name.as_bytes());
-            assert_eq!(rt; estimates[i], *estimate);
+            let level = report.levels[i];
+            assert!(rt; level.task == name.as_bytes());
+            assert_eq!(rt; level.estimate, *estimate);
         }
         for i in levels.len()..32 {
-            let task = tasks[i];
-            assert!(rt; task.is_empty());
-            assert_eq!(rt; estimates[i], 0);
+            let level = report.levels[i];
+            assert!(rt; level.task.is_empty());
+            assert_eq!(rt; level.estimate, 0);
         }
     }
 

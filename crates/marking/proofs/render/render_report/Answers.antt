@@ -2,7 +2,7 @@ use Rattle.std.proofs.Common.{[], ◌∷◌, ◌++◌, ap, ◌∙◌, codes, dec
 use Rattle.sheets.specs.declared.form.Column.TheVariants.{Task, Estimate}
 use Rattle.sheets.specs.Forms.{name_of}
 use Rattle.sheets.specs.Texts.{line_of}
-use Rattle.marking.specs.Rendered.{word_of, level_count, level_lines, outcome_line}
+use Rattle.marking.specs.Rendered.{word_of, levels_shown, level_lines, outcome_line}
 use Rattle.marking.proofs.Written.{report-whole}
 use Rattle.marking.proofs.render.render_report.Goals as goal
 
@@ -19,7 +19,7 @@ returns c =
     (codes "verdict" ∷ codes "ranges" ∷ codes "steps" ∷ [])
     (word_of r.verdict ∷ decimal r.ranges ∷ decimal r.steps ∷ [])
     (codes "level" ∷ name_of Task ∷ name_of Estimate ∷ [])
-    (level_lines r (level_count r))
+    (level_lines r (levels_shown r))
     (codes "answer" ∷ name_of Task ∷ codes "bound" ∷ [])
     (outcome_line r.outcome)
     c.new-out.ensures.items
