@@ -12,7 +12,8 @@ use table::{Fault, Table};
 // Goes down the order until a task is late, and writes each bound in its row's place.
 fn find_bounds<T: Test>(test: &T, ordered: &Ordered<'_>, bounds: &mut [u32]) -> Option<usize>
     requires { length bounds.old ≡ length (view ordered.now.table.now) }
-    ensures { Found (T.answer test.now) (view ordered.now.table.now) ordered.now.order.now result bounds.new }
+    ensures { let rows = view ordered.now.table.now in
+        Found (T.answer test.now) rows ordered.now.order.now result bounds.new }
 {
     let mut above = [false; 32];
     let mut estimates = wcets_of(ordered.table.rows());

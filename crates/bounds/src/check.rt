@@ -14,7 +14,8 @@ use table::{Fault, Place, Row, Table};
 
 // Whether each estimate lies from its row's wcet to its deadline.
 fn all_lie(rows: &[Row], estimates: &[u32]) -> bool
-    ensures { result ≡ list_all (λ (p : OneRow × ℕ). spans p.0 p.1 p.1) (zip rows.now estimates.now) }
+    ensures { let pairs = zip rows.now estimates.now in
+        result ≡ list_all (λ (p : OneRow × ℕ). spans p.0 p.1 p.1) pairs }
 {
     rows.iter()
         .zip(estimates)
@@ -31,7 +32,8 @@ fn are_estimates(rows: &[Row], estimates: &[u32]) -> bool
 // Goes down the order to the first task that misses its estimate.
 fn first_miss<T: Test>(test: &T, ordered: &Ordered<'_>, estimates: &[u32]) -> Option<Miss>
     requires { length estimates.now ≡ length (view ordered.now.table.now) }
-    ensures { FirstMiss (T.answer test.now) (view ordered.now.table.now) ordered.now.order.now estimates.now result }
+    ensures { let rows = view ordered.now.table.now in
+        FirstMiss (T.answer test.now) rows ordered.now.order.now estimates.now result }
 {
     let all = padded(estimates);
     let mut above = [false; 32];
@@ -54,7 +56,8 @@ fn first_miss<T: Test>(test: &T, ordered: &Ordered<'_>, estimates: &[u32]) -> Op
 
 /// Checks an order and an estimate for each row, in its place. The answer is the first task from
 /// the top whose own answer is late or above its estimate, with that answer, if there is one.
-/// Refused where the table has no row (13), or the lists are no order and estimates of its rows (17).
+/// Refused where the table has no row (13), or the lists are no order and estimates of its rows
+/// (17).
 pub fn check<T: Test>(
     test: &T,
     table: &Table,

@@ -13,7 +13,8 @@ use crate::window::Window;
 
 // The least window from the task's wcet to its deadline that is long enough for its load.
 fn least_window(m: Processors, limit: Option<u32>, q: &Posed<'_>) -> Option<u32>
-    ensures found { let asked = question_of q.now in result ≡ least_fit m.count (own asked) (loads limit asked) }
+    ensures found { let asked = question_of q.now in
+        result ≡ least_fit m.count (own asked) (loads limit asked) }
     ensures rises { NeverFalls (loads limit (question_of q.now)) }
 {
     let own = q.own();

@@ -11,7 +11,12 @@ pub(crate) struct Posed<'a> {
     pub task: usize,
     pub above: &'a [bool; 32],
     pub estimates: &'a [u32; 32],
-    ghost sound: { Sound (record { rows = rows.now; task = task; above = above.now; estimates = estimates.now }) },
+    ghost sound: { Sound (record {
+      rows = rows.now;
+      task = task;
+      above = above.now;
+      estimates = estimates.now;
+    }) },
 }
 
 impl Posed<'_> {

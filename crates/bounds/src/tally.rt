@@ -4,8 +4,8 @@ ghost use Rattle.bounds.specs.Climbs.{Tallied, Limited, NoneFit};
 
 use crate::processors::Processors;
 
-// What `least` starts at: a load before the cap is at most a window and a deadline long. A bound and
-// no flag; with an `Option` the climb took a third longer.
+// What `least` starts at: a load before the cap is at most a window and a deadline long. A bound
+// and no flag; with an `Option` the climb took a third longer.
 const LONGEST: u32 = 2_000_000;
 
 #[derive(Clone, Copy)]
@@ -46,12 +46,13 @@ impl Tally {
         tally
     }
 
-    // The next cap at which the loads could fit on `m` processors. The limits are no invariant of the
-    // type: one function gives them, and this one alone relies on them.
+    // The next cap at which the loads could fit on `m` processors. The limits are no invariant of
+    // the type: one function gives them, and this one alone relies on them.
     pub(crate) fn next_cap(self, m: Processors) -> u32
         requires { Limited self }
         ensures rises { (y : ℕ) → m.count * y ≤ self.sum → y < result }
-        ensures skips { (loads : List ℕ) (y : ℕ) → Tallied loads 32 y self → NoneFit loads m.count y result }
+        ensures skips { (loads : List ℕ) (y : ℕ) → Tallied loads 32 y self
+            → NoneFit loads m.count y result }
     {
         let count = m.count();
         let jump = if self.over < count {

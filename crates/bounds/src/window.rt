@@ -31,7 +31,8 @@ fn extras_of(carried: &[u32; 32], plain: &[u32; 32], cap: u32) -> [u32; 32]
 
 // The carried work of the chosen tasks, and the plain work of the others.
 fn mixed(carried: &[u32; 32], plain: &[u32; 32], chosen: &[bool; 32]) -> [u32; 32]
-    ensures { Lists (λ k. (if nth chosen.now k false then nth carried.now k 0 else nth plain.now k 0)) result }
+    ensures { Lists (λ k.
+        (if nth chosen.now k false then nth carried.now k 0 else nth plain.now k 0)) result }
 {
     array::from_fn(|place| {
         if chosen[place] {
@@ -70,7 +71,8 @@ impl Window<'_> {
     // above.
     fn work_of(&self, place: usize, carries: bool) -> u32
         requires place { place < 32 }
-        ensures { result ≡ work_at (question_of self.now.posed) self.now.length carries (place + 1) }
+        ensures { let q = question_of self.now.posed in
+            result ≡ work_at q self.now.length carries (place + 1) }
     {
         let q = self.posed;
         if !q.above[place] {
@@ -94,7 +96,8 @@ impl Window<'_> {
     // At most `limit` of the loads are carried and the others plain; without a limit all are
     // carried.
     pub(crate) fn uncapped_loads(&self, limit: Option<u32>) -> [u32; 32]
-        ensures { let q = question_of self.now.posed in Uncapped (loads limit q) (own q) self.now.length result }
+        ensures { let q = question_of self.now.posed in
+            Uncapped (loads limit q) (own q) self.now.length result }
     {
         let carried = self.works(true);
         let Some(limit) = limit else {

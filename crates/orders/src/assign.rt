@@ -72,9 +72,9 @@ impl<T: Test> Assigner<'_, T> {
             .is_some_and(|bound| bound <= self.range.highs[k - 1])
     }
 
-    // The order of the filled levels, the highest task first, with 0 after the last: from the lowest
-    // level up each takes the lowest-numbered task left that passes there. None where no task passes
-    // at a level; `left` then has the tasks that are not placed.
+    // The order of the filled levels, the highest task first, with 0 after the last: from the
+    // lowest level up each takes the lowest-numbered task left that passes there. None where no
+    // task passes at a level; `left` then has the tasks that are not placed.
     fn fill_levels(&self, left: &mut [bool; 32]) -> Option<[usize; 32]>
         requires { left.old ≡ full (length (view self.now.table.now)) }
         ensures { let rows = view self.now.table.now in

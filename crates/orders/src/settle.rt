@@ -17,9 +17,12 @@ pub fn settle<T: Test>(test: &T, table: &Table, range: &Range) -> Settled
     ensures order { Assigns (T.answer test.now) (view table.now) range.now (order_of result) }
     ensures decides { FindsIfOpen (T.answer test.now) (view table.now) range.now (order_of result) }
     ensures lowest { FillsLowest (T.answer test.now) (view table.now) range.now (order_of result) }
-    ensures grown { Grown (T.answer test.now) (view table.now) range.now (grown_of range.now result) }
-    ensures back { GivenBack (T.answer test.now) (view table.now) range.now (grown_of range.now result) }
-    ensures maximal { GrownMaximal (T.answer test.now) (view table.now) range.now (grown_of range.now result) }
+    ensures grown { let grown = grown_of range.now result in
+        Grown (T.answer test.now) (view table.now) range.now grown }
+    ensures back { let grown = grown_of range.now result in
+        GivenBack (T.answer test.now) (view table.now) range.now grown }
+    ensures maximal { let grown = grown_of range.now result in
+        GrownMaximal (T.answer test.now) (view table.now) range.now grown }
     ensures narrowing { Narrowing (T.answer test.now) (view table.now) }
 {
     let Some(own) = TableRange::new(table, range) else {

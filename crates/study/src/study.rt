@@ -125,8 +125,8 @@ impl Study {
         Ok(())
     }
 
-    /// Takes row `k` out; the later rows move up by one. Refused where there is no row `k` (10); the
-    /// study is then as it was, and otherwise a draft.
+    /// Takes row `k` out; the later rows move up by one. Refused where there is no row `k` (10);
+    /// the study is then as it was, and otherwise a draft.
     pub fn remove(&mut self, k: usize) -> Result<(), Fault>
         ensures does { Edits (λ t r u. Removes t k r u) self.old result self.new }
         ensures promise { EditPromise self.old self.new }
@@ -155,8 +155,8 @@ impl Study {
     ghost use Rattle.study.specs.Moments.{moment};
 
     /// Begins a search: the range of all C to D is written into pending slot 1. Refused where the
-    /// table has no row (13), and where a list has not 1 to 4,096 whole slots and nothing over (14);
-    /// the study and both lists are then as they were.
+    /// table has no row (13), and where a list has not 1 to 4,096 whole slots and nothing over
+    /// (14); the study and both lists are then as they were.
     pub fn begin(&mut self, ledger: &mut [u32], pending: &mut [u32]) -> Result<(), Fault>
         ensures does { let lent = moment self.old ledger.old pending.old in
             Begins lent result (moment self.new ledger.new pending.new) }
