@@ -1,7 +1,7 @@
-// Prints what there is to say of board.txt, tasks.txt and answer.txt in the folder that it is started
-// in; with --explain it says on standard error what that means. The status is 1 after a fault, and
-// where an output could not be written or memory is lacking, and 2 after arguments that are not
-// known.
+// Prints what there is to say of board.txt, tasks.txt and answer.txt in the folder that it is
+// started in; with --explain it says on standard error what that means. The status is 1 after a
+// fault, and where an output could not be written or memory is lacking, and 2 after arguments that
+// are not known.
 #![tactic(auto)]
 
 use explain::Request;
