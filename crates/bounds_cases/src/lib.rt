@@ -154,7 +154,10 @@ mod tests {
             assert!(rt; !NamedTest::has_name(name.as_bytes()));
         }
         for name in ["da", "rta", "lc"] {
-            assert!(rt; NamedTest::new(name.as_bytes(), two).is_ok());
+            for count in [1, 2, 16] {
+                let processors = Processors::new(count)?;
+                assert!(rt; NamedTest::new(name.as_bytes(), processors).is_ok());
+            }
             assert!(rt; NamedTest::has_name(name.as_bytes()));
         }
         Ok(())
