@@ -8,7 +8,7 @@ use Rattle.bounds.specs.DaLaws.{da_sound}
 use Rattle.bounds.proofs.Summing.{over_le}
 
 -- a load is at most its cap, which is at most the window
-carried_le : (i : Row) (l : ℕ) (j : Row) (r : ℕ) → i.wcet ≤ l → carried i l j r ≤ l
+pub carried_le : (i : Row) (l : ℕ) (j : Row) (r : ℕ) → i.wcet ≤ l → carried i l j r ≤ l
 carried_le i l j r h = omega (arith, i.ok)
 
 -- the load of the tasks above among the first n rows

@@ -22,3 +22,4 @@ pub mod Greatests
 pub mod Meanings
 pub mod ReadRows
 pub mod Summing
+pub mod Works
