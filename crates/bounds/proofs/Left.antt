@@ -16,7 +16,9 @@ use Rattle.std.specs.Iterator.Runs.{Run, WholeRun, AnyItem, AllItems, NoKeyBeyon
 use mathlib.Core.List.{map-id}
 use denote.Param.Members.{Mut}
 use denote.Ref.{Bor}
-use Rattle.bounds.specs.Climbs.{GreatestLeft}
+use Rattle.table.specs.Places.{nth}
+use Rattle.table.proofs.Placed.{nth_next}
+use Rattle.bounds.specs.Climbs.{GreatestLeft, ZeroPast}
 
 -- what holds of each place that passes a test holds at a place that does
 each_left : (P : ℕ → Type 0) (t : ℕ → Bool) (a n j : ℕ) → All P (filter t (range_with_len a n)) → a ≤ j → j < a + n → t j ≡ true → P j
@@ -36,16 +38,20 @@ each_left P t a (suc n) j all low high y =
 abbrev pub is_left : List ℕ → List Bool → ℕ → Bool
 is_left numbers chosen j = not (get_or chosen j false) && ltb 0 (get_or numbers j 0)
 
-module _ (numbers : List ℕ) (chosen : List Bool) (n : ℕ) (end : n ≡ 32) where
+module _ (numbers : List ℕ) (chosen : List Bool) (n : ℕ) (few : n ≤ 32) (past : ZeroPast n numbers) where
   abbrev left : ℕ → Bool
   left = is_left numbers chosen
 
   passes : (j : ℕ) → get_or chosen j false ≡ false → 0 < get_or numbers j 0 → left j ≡ true
   passes j z h = and_from (not (get_or chosen j false)) _ (not_from_false (get_or chosen j false) z) (lt-ltb 0 (get_or numbers j 0) h)
 
+  -- a number above 0 stands among the first n
+  within : (j : ℕ) → j < 32 → 0 < get_or numbers j 0 → j < n
+  within j l h = elim (cases_lt j n) [ inl m ↦ m | inr m ↦ absurd (omega (arith, past (j + 1) (omega arith) (omega arith), nth_next numbers j 0)) ]
+
   none_left : filter left (range_with_len 0 n) ≡ [] → GreatestLeft numbers chosen None
   none_left none = λ j l z. elim (cases_lt 0 (get_or numbers j 0)) [
-    | inl h ↦ absurd (each_left (λ _. ⊥) left 0 n j (All-same (λ _. ⊥) _ [] none (All-nil (λ _. ⊥))) (omega arith) (omega arith) (passes j z h))
+    | inl h ↦ absurd (each_left (λ _. ⊥) left 0 n j (All-same (λ _. ⊥) _ [] none (All-nil (λ _. ⊥))) (omega arith) (omega (arith, within j l h)) (passes j z h))
     | inr h ↦ omega arith
   ]
 
@@ -58,7 +64,7 @@ module _ (numbers : List ℕ) (chosen : List Bool) (n : ℕ) (end : n ≡ 32) wh
         not-true (get_or chosen m false) parts.0,
         ltb-true 0 (get_or numbers m 0) parts.1,
         (λ j l z. elim (cases_lt 0 (get_or numbers j 0)) [
-          | inl h ↦ each_left (λ x. get_or numbers x 0 ≤ get_or numbers m 0) left 0 n j most (omega arith) (omega arith) (passes j z h)
+          | inl h ↦ each_left (λ x. get_or numbers x 0 ≤ get_or numbers m 0) left 0 n j most (omega arith) (omega (arith, within j l h)) (passes j z h)
           | inr h ↦ omega arith
         ]),
       )
@@ -83,7 +89,7 @@ not_above : (j k : ℕ) → is_gt (nat_cmp j k) ≡ false → j ≤ k
 not_above j k h = grind (arith, nat_tests)
 
 -- a whole run that is keyed by the numbers
-module _ {S F : Type 0} {steps : S → Option ℕ → S → Type 0} {s : S} {g : Mut F (Bor ℕ × Unit {0}) ℕ} (f : F) (numbers : List ℕ) (chosen : List Bool) (n : ℕ) (end : n ≡ 32)
+module _ {S F : Type 0} {steps : S → Option ℕ → S → Type 0} {s : S} {g : Mut F (Bor ℕ × Unit {0}) ℕ} (f : F) (numbers : List ℕ) (chosen : List Bool) (n : ℕ) (few : n ≤ 32) (past : ZeroPast n numbers)
     (gives : YieldsList steps (λ x. x) s (filter (is_left numbers chosen) (range_with_len 0 n)))
     (keys : (x k : ℕ) (e : F) → CalledAt g f x k e → (e ≡ f) × (k ≡ get_or numbers x 0)) where
   items : (p : Run steps) → p.from ≡ s → p.whole ≡ true → p.items ≡ filter (is_left numbers chosen) (range_with_len 0 n)
@@ -92,12 +98,12 @@ module _ {S F : Type 0} {steps : S → Option ℕ → S → Type 0} {s : S} {g :
       sym (map-id p.items) ∙ items_from_drains p.items (subst (λ z. DrainsIf steps (Unit {0}) z p.items) from (ran.0, ran.1, λ _. ran.2 whole)) gives
 
   pub greatest_by_key : (r : Option ℕ) → WholeRun steps s (λ p. MatchOption r (p.len ≡ 0) (λ m. AnyItem p (λ x. x ≡ m) × NoKeyBeyond p g f is_gt nat_cmp m)) → GreatestLeft numbers chosen r
-  greatest_by_key None (p, from, whole, none) = none_left numbers chosen n end (sym (items p from whole) ∙ nil_from_length p.items (omega (arith, p.long)))
+  greatest_by_key None (p, from, whole, none) = none_left numbers chosen n few past (sym (items p from whole) ∙ nil_from_length p.items (omega (arith, p.long)))
   greatest_by_key (Some m) (p, from, whole, found) =
       let is = items p from whole in
       let keyed = found.1 (λ (x, _) k e called. (keys x.now k e (record { shown = x; shows = refl; called = called })).0) in
       let key : ℕ → Type 0 = λ x. (j : ℕ) × CalledAt g f x j f × (is_gt (nat_cmp j keyed.0) ≡ false) in
       let less : (x : ℕ) → key x → get_or numbers x 0 ≤ get_or numbers m 0 = λ x (j, called, below). omega (arith, (keys x j f called).1, (keys m keyed.0 f keyed.1).1, not_above j keyed.0 below) in
-      greatest_left numbers chosen n end m
+      greatest_left numbers chosen n few past m
       (subst (λ xs. Contains xs m) is (any_item p m found.0))
       (subst (All (λ x. get_or numbers x 0 ≤ get_or numbers m 0)) is (All-weaker key _ less p.items (all_items p key keyed.2)))

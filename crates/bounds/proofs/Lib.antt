@@ -23,3 +23,4 @@ pub mod Meanings
 pub mod ReadRows
 pub mod Summing
 pub mod Works
+pub mod Writes

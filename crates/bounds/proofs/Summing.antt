@@ -1,5 +1,5 @@
 -- Sums over the rows 1 to n: their turns, their parts, and what they come to at most.
-use Rattle.std.proofs.Common.{◌≡◌, ℕ, zero, suc, ◌+◌, ◌*◌, ◌≤◌, Bool, false, cond, List, get_or, refl, sym, ap, ◌∙◌, inl, inr, suc-mul, add-mul, zero-mul, one-mul, arith, add-one}
+use Rattle.std.proofs.Common.{◌≡◌, ℕ, zero, suc, ◌+◌, ◌*◌, ◌<◌, ◌≤◌, Bool, false, cond, List, get_or, refl, sym, ap, ◌∙◌, inl, inr, suc-mul, add-mul, zero-mul, one-mul, arith, add-one}
 use Rattle.std.proofs.lemmas.Bool.{cases_Bool, cases_eq, cond-true, cond-false}
 use Rattle.table.specs.Places.{nth}
 use Rattle.table.proofs.Placed.{nth_next}
@@ -50,3 +50,9 @@ over_le s f c n h = sum_le _ c n (λ k low high. elim (cases_Bool (nth s k false
 -- a turn of a loop over the tasks of a set
 pub over_more : (s : List Bool) (f : ℕ → ℕ) (place : ℕ) → sum_over s f (place + 1) ≡ sum_over s f place + cond (get_or s place false) (f (place + 1)) 0
 over_more s f place = sum_more _ place ∙ ap (λ b. sum_over s f place + cond b (f (place + 1)) 0) (nth_next s place false)
+
+-- a sum over more places, all 0, is the sum before
+pub sum_past : (f : ℕ → ℕ) (n m : ℕ) → n ≤ m → ((k : ℕ) → n < k → k ≤ m → f k ≡ 0) → sum_to f m ≡ sum_to f n
+unfolding sum_to
+sum_past f n zero le none = let e : 0 ≡ n = omega arith in ap (sum_to f) e
+sum_past f n (suc m) le none = elim (cases_eq n (suc m)) [ inl e ↦ ap (sum_to f) (sym e) | inr d ↦ omega (arith, sum_past f n m (omega arith) (λ k low high. none k low (omega arith)), none (suc m) (omega arith) (omega arith)) ]

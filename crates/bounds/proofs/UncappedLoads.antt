@@ -9,17 +9,11 @@ use Rattle.table.proofs.Placed.{nth_next}
 use Rattle.bounds.specs.Questions.{Asked, own, Sound, Lies, In}
 use Rattle.bounds.specs.Loads.{work, cap_of, carried, plain, sum_to, total_of, sum_over}
 use Rattle.bounds.specs.Responses.{Choice, Greatest, carried_loads, plain_loads, extra, limited_load}
-use Rattle.bounds.specs.Climbs.{loads, Lists, work_at, Picked, Uncapped, NeverFalls}
+use Rattle.bounds.specs.Climbs.{loads, Lists, ZeroPast, work_at, Picked, Uncapped, NeverFalls}
 use Rattle.bounds.specs.Sums.{sum_mono, over_mono}
 use Rattle.bounds.specs.Works.{work_mono}
-use Rattle.bounds.proofs.Summing.{sum_same, sum_add}
+use Rattle.bounds.proofs.Summing.{sum_same, sum_add, sum_past}
 use Rattle.bounds.proofs.Greatests.{greatest_is, greatest_one}
-
--- a sum over more places, all 0, is the sum before
-sum_past : (f : ℕ → ℕ) (n m : ℕ) → n ≤ m → ((k : ℕ) → n < k → k ≤ m → f k ≡ 0) → sum_to f m ≡ sum_to f n
-unfolding sum_to
-sum_past f n zero le none = let e : 0 ≡ n = omega arith in ap (sum_to f) e
-sum_past f n (suc m) le none = elim (cases_eq n (suc m)) [ inl e ↦ ap (sum_to f) (sym e) | inr d ↦ omega (arith, sum_past f n m (omega arith) (λ k low high. none k low (omega arith)), none (suc m) (omega arith) (omega arith)) ]
 
 module _ (q : Asked) (sound : Sound q) where
   -- the works of a task above, carried and plain, before the cap
@@ -59,6 +53,16 @@ module _ (q : Asked) (sound : Sound q) where
 
   pub work_not_above : (l : ℕ) (carries : Bool) (place : ℕ) → get_or q.above place false ≡ false → work_at q l carries (place + 1) ≡ 0
   work_not_above l carries place z = cond-false (nth q.above (place + 1) false) _ 0 (nth_next q.above place false ∙ z)
+
+  -- nothing past the rows is above
+  pub work_past : (l : ℕ) (carries : Bool) (k : ℕ) → length q.rows < k → k ≤ 32 → work_at q l carries k ≡ 0
+  work_past l carries k low high = elim (cases_Bool (nth q.above k false)) [
+    | inl y ↦ absurd (omega (arith, sound.inside k high y))
+    | inr z ↦ cond-false (nth q.above k false) _ 0 z
+  ]
+
+  pub works_past : (l : ℕ) (carries : Bool) (works : List ℕ) → Lists (work_at q l carries) works → ZeroPast (length q.rows) works
+  works_past l carries works lists k low high = lists k (omega arith) high ∙ work_past l carries k low high
 
   -- a sum over all places of the tasks above is that over the rows
   sum_rows : (f : ℕ → ℕ) → sum_over q.above f 32 ≡ sum_over q.above f (length q.rows)
@@ -190,6 +194,16 @@ module _ (q : Asked) (sound : Sound q) (c l : ℕ)
   parts : (l' : ℕ) → sum_to (part l') 32 ≡ plain_loads q l' + total_of is_chosen (gain l') (length q.rows)
   unfolding part
   parts l' = omega (arith, sum_add (λ k. cond (above k) (plain_part l' k) 0) (λ k. cond (is_chosen k) (gain l' k) 0) 32, sum_rows q sound (plain_part l'), total_rows is_chosen choice.inside (gain l'))
+
+  -- mixed loads are 0 past the rows
+  pub mixed_past : ZeroPast (length q.rows) loads
+  mixed_past k low high =
+      let with_past = works_past q sound l true with' carries k low high in
+      let without_past = works_past q sound l false without plains k low high in
+      elim (cases_Bool (is_chosen k)) [
+        | inl y ↦ mixes k (omega arith) high ∙ cond-true (is_chosen k) (nth with' k 0) (nth without k 0) y ∙ with_past
+        | inr z ↦ mixes k (omega arith) high ∙ cond-false (is_chosen k) (nth with' k 0) (nth without k 0) z ∙ without_past
+      ]
 
   pub uncapped_limited : Uncapped (limited_load c q) (own q) l loads
   uncapped_limited = record {

@@ -21,6 +21,10 @@ climbs m limit = answer_by m (loads limit)
 abbrev pub Lists : (ℕ → ℕ) → List ℕ → Type 0
 Lists f xs = (k : ℕ) → 1 ≤ k → k ≤ 32 → nth xs k 0 ≡ f k
 
+-- a list has 0 in its places past the first n of 32
+abbrev pub ZeroPast : ℕ → List ℕ → Type 0
+ZeroPast n xs = (k : ℕ) → n < k → k ≤ 32 → nth xs k 0 ≡ 0
+
 -- the work of task k in a window, before the cap, with its estimate if it carries load in; 0 if it is
 -- not above
 abbrev pub work_at : Asked → ℕ → Bool → ℕ → ℕ

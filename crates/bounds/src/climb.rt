@@ -27,7 +27,7 @@ fn least_window(m: Processors, limit: Option<u32>, q: &Posed<'_>) -> Option<u32>
             length: wcet + cap - 1,
         };
         let loads = window.uncapped_loads(limit);
-        let tally = Tally::of(&loads, cap);
+        let tally = Tally::of(&loads, q.rows.len(), cap);
         if tally.sum < m.count() * cap {
             return Some(window.length);
         }

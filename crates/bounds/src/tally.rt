@@ -1,6 +1,6 @@
 // What is added up of the uncapped loads of a window, and the next cap that it leaves.
 ghost use Rattle.std.specs.Prelude.{ℕ, ◌*◌, ◌<◌, ◌≤◌, List};
-ghost use Rattle.bounds.specs.Climbs.{Tallied, Limited, NoneFit};
+ghost use Rattle.bounds.specs.Climbs.{Tallied, Limited, NoneFit, ZeroPast};
 
 use crate::processors::Processors;
 
@@ -21,8 +21,10 @@ pub(crate) struct Tally {
 }
 
 impl Tally {
-    // What the loads make up at a cap.
-    pub(crate) fn of(loads: &[u32; 32], cap: u32) -> Tally
+    // What the loads make up at a cap. None past the rows is looked at.
+    pub(crate) fn of(loads: &[u32; 32], rows: usize, cap: u32) -> Tally
+        requires few { rows ≤ 32 }
+        requires past { ZeroPast rows loads.now }
         requires short { cap ≤ 1000000 }
         ensures sums { Tallied loads.now 32 cap result }
         ensures limits { Limited result }
@@ -33,7 +35,7 @@ impl Tally {
             least: LONGEST,
             rest: 0,
         };
-        for &load in loads {
+        for &load in &loads[..rows] {
             if load > cap {
                 tally.sum += cap;
                 tally.over += 1;

@@ -1,7 +1,7 @@
 // A window of a posed question, its cap, and the loads of the tasks above in it.
-ghost use Rattle.std.specs.Prelude.{◌≡◌, ◌+◌, ◌-◌, ◌<◌, ◌≤◌, min, false, if◌then◌else◌};
+ghost use Rattle.std.specs.Prelude.{◌≡◌, ◌+◌, ◌-◌, ◌<◌, ◌≤◌, min, false, length, if◌then◌else◌};
 ghost use Rattle.table.specs.Places.{nth};
-ghost use Rattle.bounds.specs.Climbs.{loads, Uncapped, Lists, work_at};
+ghost use Rattle.bounds.specs.Climbs.{loads, Uncapped, Lists, ZeroPast, work_at};
 ghost use Rattle.bounds.specs.Loads.{work, cap_of, carried};
 ghost use Rattle.bounds.specs.Posing.{question_of};
 ghost use Rattle.bounds.specs.Questions.{Lies, own};
@@ -90,22 +90,30 @@ impl Window<'_> {
     fn works(&self, carries: bool) -> [u32; 32]
         ensures { Lists (work_at (question_of self.now.posed) self.now.length carries) result }
     {
-        array::from_fn(|place| self.work_of(place, carries))
+        // Not by `array::from_fn`, which goes over the places past the rows too: `lc` on few rows
+        // then took up to 1.9 times the instructions.
+        let mut works = [0; 32];
+        for place in 0..self.posed.rows.len() {
+            works[place] = self.work_of(place, carries);
+        }
+        works
     }
 
     // At most `limit` of the loads are carried and the others plain; without a limit all are
     // carried.
     pub(crate) fn uncapped_loads(&self, limit: Option<u32>) -> [u32; 32]
-        ensures { let q = question_of self.now.posed in
+        ensures uncapped { let q = question_of self.now.posed in
             Uncapped (loads limit q) (own q) self.now.length result }
+        ensures past { ZeroPast (length self.now.posed.rows.now) result }
     {
         let carried = self.works(true);
         let Some(limit) = limit else {
             return carried;
         };
         let plain = self.works(false);
+        let rows = self.posed.rows.len();
         let extras = extras_of(&carried, &plain, self.cap());
-        let chosen = picks(&extras, limit);
+        let chosen = picks(&extras, rows, limit);
         mixed(&carried, &plain, &chosen)
     }
 }

@@ -13,7 +13,7 @@ returns-then-tally-count-clause-found c =
     let wcet : c.wcet-wcet.result ≡ (own q).wcet = cc in
     let deadline : c.deadline.result ≡ (own q).deadline = cc in
     turn_found c.args.m.count (omega (arith, c.args.m.ok)) (own q) load c.loop-cap.cap c.loop-cap.invariant.0 c.loop-cap.invariant.1
-    c.wcet-wcet.result wcet c.uncapped_loads-loads.result c.of-tally.result c.uncapped_loads-loads.ensures c.of-tally.ensures.sums
+    c.wcet-wcet.result wcet c.uncapped_loads-loads.result c.of-tally.result c.uncapped_loads-loads.ensures.uncapped c.of-tally.ensures.sums
     (omega (arith, c.loop-cap-test.true, wcet, deadline))
     (omega (arith, c.if-tally-count.true, ap (λ n. n * c.loop-cap.cap) c.count.ensures))
 
@@ -28,7 +28,7 @@ loop-cap-preserved c =
     let next = c.next_cap-cap.ensures in (
       omega (arith, next.rises 0 (omega arith)),
       turn_passed c.args.m.count (omega (arith, c.args.m.ok)) (own q) load c.loop-cap.cap c.loop-cap.invariant.0 c.loop-cap.invariant.1
-          c.wcet-wcet.result wcet c.uncapped_loads-loads.result c.of-tally.result c.uncapped_loads-loads.ensures c.of-tally.ensures.sums
+          c.wcet-wcet.result wcet c.uncapped_loads-loads.result c.of-tally.result c.uncapped_loads-loads.ensures.uncapped c.of-tally.ensures.sums
           c.next_cap-cap.result (next.skips c.uncapped_loads-loads.result c.loop-cap.cap c.of-tally.ensures.sums),
     )
 
