@@ -90,8 +90,8 @@ impl Window<'_> {
     fn works(&self, carries: bool) -> [u32; 32]
         ensures { Lists (work_at (question_of self.now.posed) self.now.length carries) result }
     {
-        // Not by `array::from_fn`, which goes over the places past the rows too: `lc` on few rows
-        // then took up to 1.9 times the instructions.
+        // Not by `array::from_fn`, which goes over the places past the rows too: on few rows `lc`
+        // then took about twice the instructions.
         let mut works = [0; 32];
         for place in 0..self.posed.rows.len() {
             works[place] = self.work_of(place, carries);
